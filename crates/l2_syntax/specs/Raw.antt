@@ -1,6 +1,8 @@
 -- Texts as they are spelt, as definitions speak of them: trees without addresses.
 use Rattle.std.specs.Prelude.{ℕ, ℤ, List, [], ◌∷◌}
 use Rattle.l2_syntax.specs.declared.place.Place.{Place}
+use Rattle.l2_syntax.specs.declared.token.Name.{Name as NameText}
+use Rattle.l2_syntax.specs.declared.raw.Unit as unit
 use Rattle.l2_syntax.specs.declared.raw.UnaryOperator.{UnaryOperator}
 use Rattle.l2_syntax.specs.declared.raw.BinaryOperator.{BinaryOperator}
 use Rattle.l2_syntax.specs.declared.raw.Expr as expr
@@ -60,3 +62,12 @@ abbrev mutual
 abbrev pub stmts_onto : StmtTrees → List Stmt → StmtTrees
 stmts_onto trees [] = trees
 stmts_onto trees (s ∷ rest) = stmts_onto (also trees (stmt_tree s)) rest
+
+-- a whole text: where the name `main` stands, the items of its body, and the names that words are numbered by
+pub record UnitTree : Type 0 where
+  pub main : Place
+  pub items : StmtTrees
+  pub names : List NameText
+
+abbrev pub unit_tree : unit.Unit → UnitTree
+unit_tree u = record { main = u.main; items = stmts_onto none u.items.items; names = u.names }
