@@ -75,7 +75,7 @@ abbrev pub cut : {C F : Type 0} → ℕ → (ℕ → Run (Unit {0})) → ℕ →
 cut zero back l test turn counted c = over Stopped
 cut (suc n) back l test turn counted c =
     and_then choose (λ z. either (int_eq z (pos 0)) (copies (suc n) l test turn counted c)
-        (and_then (back l) (λ u. later_copies n l test turn counted c)))
+    (and_then (back l) (λ u. later_copies n l test turn counted c)))
 
 -- loop l in a mode, by its turn where checks count or not
 abbrev pub loop_of : {C F : Type 0} → Mode → ℕ → (Bool → Turn C F) → Bool → C → Run (C × F)

@@ -7,7 +7,8 @@ use Rattle.l2_syntax.specs.Programs.{program_tree}
 use Rattle.l2_meaning.specs.Store.{Address}
 use Rattle.l2_meaning.specs.Loops.{Real}
 use Rattle.l2_meaning.specs.Meaning as meaning
-use Rattle.l2_meaning.specs.Execution.{setting_of}
+use Rattle.l2_meaning.specs.Execution.{setting_of, Execution}
+use Rattle.l2_replay.specs.declared.answer.Replay.{Replay}
 use Rattle.l2_replay.specs.declared.expressions.Value.{Value}
 use Rattle.l2_replay.specs.declared.expressions.Value.TheVariants.{Nothing, Scalar}
 use Rattle.l2_replay.specs.declared.expressions.Ending.{Ending}
@@ -31,3 +32,6 @@ lvalue_address (lvalue.Object n) = record { object = n; offset = 0 }
 -- real executions of a program
 abbrev pub setting : Program → meaning.Setting
 setting p = setting_of (program_tree p) Real
+
+abbrev pub execution_of : Replay → Execution
+execution_of r = record { outcome = r.outcome; choices_used = r.choices_used; turns_used = r.turns_used }

@@ -82,7 +82,12 @@ pub fn eval(m: &mut Machine, p: &Program, e: &Typed) -> Result<Value, Outcome>
         },
         Typed::Binary(op, ty, x, y) => match eval(m, p, x) {
             Ok(v) => match eval(m, p, y) {
-                Ok(w) => Ok(Value::Scalar(CellValue::Number(binary(*op, *ty, number_of(v), number_of(w))))),
+                Ok(w) => Ok(Value::Scalar(CellValue::Number(binary(
+                    *op,
+                    *ty,
+                    number_of(v),
+                    number_of(w),
+                )))),
                 Err(o) => Err(o),
             },
             Err(o) => Err(o),

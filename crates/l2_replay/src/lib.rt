@@ -1,11 +1,13 @@
 //! Executes a program on given choices and turns, as its meaning says.
 #![tactic(auto)]
 
+mod answer;
 mod expressions;
 mod machine;
 mod operators;
+mod replay_program;
+mod start;
 mod statements;
 
-pub use expressions::{Ending, Value};
-pub use machine::{Machine, ObjectState};
-pub use statements::{act, declare};
+pub use answer::Replay;
+pub use replay_program::replay;

@@ -87,13 +87,7 @@ pub fn act(m: &mut Machine, p: &Program, s: &Checked) -> Result<Ending, Outcome>
             Err(o) => Err(o),
         },
         Checked::IfElse(e, s, t) => match eval(m, p, e) {
-            Ok(v) => {
-                if holds(v) {
-                    act(m, p, s)
-                } else {
-                    act(m, p, t)
-                }
-            }
+            Ok(v) => { if holds(v) { act(m, p, s) } else { act(m, p, t) } }
             Err(o) => Err(o),
         },
         Checked::While(_, e, s) => repeat(m, p, e, s),

@@ -32,5 +32,11 @@ function_tree f = record { name = f.name; place = f.place; parameters = f.parame
 
 abbrev pub program_tree : rust.Program → ProgramTree
 program_tree p = record {
-  objects = p.objects; functions = map function_tree p.functions; loops = p.loops; checks = p.checks; names = p.names;
-  static_values = p.static_values; thresholds = p.thresholds }
+  objects = p.objects;
+  functions = map function_tree p.functions;
+  loops = p.loops;
+  checks = p.checks;
+  names = p.names;
+  static_values = p.static_values;
+  thresholds = p.thresholds;
+}

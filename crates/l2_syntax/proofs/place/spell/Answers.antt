@@ -41,7 +41,7 @@ returns-clause-text c =
     let kept = c.write_digits-colon.auto.buf in
     let past = drop_of_length-le c.args.text.now {i = 21} (omega arith) in
     let behind = c.write_digits-colon.ensures.written ∙ ap (λ n. decimal n ++ drop 21 c.args.text.now) c.from.ensures
-        ∙ ap (λ l. decimal c.args.col ++ l) past ∙ append-nil (decimal c.args.col) in
+    ∙ ap (λ l. decimal c.args.col ++ l) past ∙ append-nil (decimal c.args.col) in
     c.write_digits.ensures.written
     ∙ ap (λ n. decimal n ++ drop (c.write_digits-colon.result - 1) (set c.write_digits-colon.new.buf (c.write_digits-colon.result - 1) 58)) c.from-2.ensures
     ∙ ap (λ l. decimal c.args.line ++ l) (colon_before c.write_digits-colon.result c.write_digits-colon.new.buf (omega arith) (omega arith) ∙ ap (λ l. 58 ∷ l) behind)
