@@ -15,11 +15,7 @@ use Rattle.l2_syntax.specs.Raw.{ExprTree, StmtTree, StmtTrees, UnitTree}
 use Rattle.l2_syntax.specs.Checked as checked
 use Rattle.l2_syntax.specs.Checked.{TypedTree, CheckedTree, CheckedTrees}
 use Rattle.l2_syntax.specs.Programs.{ProgramTree, FunctionTree}
-
--- a name that is in scope, and the object that it stands for
-pub record Entry : Type 0 where
-  pub name : ℕ
-  pub object : ℕ
+use Rattle.l2_small_check.specs.declared.entry.Entry.{Entry}
 
 -- the names in scope, in the order of their declarations
 abbrev pub Scope : Type 0
@@ -90,11 +86,15 @@ with_loop found p = record found { loops = found.loops ++ record { place = p; fu
 abbrev pub with_check : Found → Place → Found
 with_check found p = record found { checks = found.checks ++ record { place = p; kind = Assertion } ∷ [] }
 
--- a list of items becomes what stands before a rest
+-- one tree after another
+abbrev pub chain : List CheckedTree → CheckedTrees
+chain [] = checked.none
+chain (t ∷ rest) = checked.more t (chain rest)
+
 abbrev mutual
   pub item : Scope → Found → StmtTree → Option (Elaborated CheckedTree)
   item scope found (raw.Block all) =
-      and_then (items scope found all) (λ r. Some (stays scope r.found (checked.Block (r.tree checked.none))))
+      and_then (items scope found all) (λ r. Some (stays scope r.found (checked.Block (chain r.tree))))
   item scope found (raw.Declare n p) =
       and_then (declare scope found n p) (λ d. Some (record { tree = checked.Declare d.tree; scope = d.scope; found = d.found }))
   item scope found (raw.Initialise n p e) =
@@ -117,11 +117,11 @@ abbrev mutual
       Some (stays scope (with_check found p) (checked.Evaluate (checked.Assert (suc (length found.checks)) t))))
   item scope found (raw.Return e) = and_then (typed scope e) (λ t. Some (stays scope found (checked.Return t)))
 
-  pub items : Scope → Found → StmtTrees → Option (Elaborated (CheckedTrees → CheckedTrees))
-  items scope found raw.none = Some (stays scope found (λ rest. rest))
+  pub items : Scope → Found → StmtTrees → Option (Elaborated (List CheckedTree))
+  items scope found raw.none = Some (stays scope found [])
   items scope found (raw.also all s) =
       and_then (items scope found all) (λ r. and_then (item r.scope r.found s) (λ q.
-      Some (record { tree = λ rest. r.tree (checked.more q.tree rest); scope = q.scope; found = q.found })))
+      Some (record { tree = r.tree ++ q.tree ∷ []; scope = q.scope; found = q.found })))
 
 abbrev pub nothing_found : Found
 nothing_found = record { objects = []; loops = []; checks = [] }
@@ -137,5 +137,5 @@ abbrev pub program_of : UnitTree → Option ProgramTree
 program_of u =
     and_then (items [] nothing_found u.items) (λ r.
     Some (record {
-      objects = r.found.objects; functions = main_function u (checked.Block (r.tree checked.none)) ∷ []; loops = r.found.loops;
+      objects = r.found.objects; functions = main_function u (checked.Block (chain r.tree)) ∷ []; loops = r.found.loops;
       checks = r.found.checks; names = u.names ++ main_name ∷ []; static_values = []; thresholds = [] }))
