@@ -1,0 +1,87 @@
+-- A text cut into its lines, line by line.
+use Rattle.std.proofs.Common.{◌≡◌, ◌≢◌, ℕ, ◌+◌, ◌<◌, Bool, true, false, not, cond, List, [], ◌∷◌, ◌++◌, length, refl, sym, ap, subst, ◌∙◌, ⊎_elim, append_assoc, append-nil, arith, ◌⊎◌, inl, inr}
+use Rattle.std.specs.Prelude.{◌==◌}
+use Rattle.std.specs.List.{All, concat, list_all}
+use Rattle.std.specs.Char.{digit_value}
+use Rattle.std.specs.Str.Parse.{AllDigits}
+use Rattle.std.specs.Fmt.{decimal, signed_decimal}
+use Rattle.std.proofs.Common.{ℤ, pos, negsuc, suc, ◌^◌}
+use Rattle.std.proofs.lemmas.Bool.Decides.{eqb_tells}
+use Rattle.std.proofs.lemmas.Bool.{eqb-false}
+use Rattle.std.specs.Prelude.{⊤, ◌&&◌}
+use Rattle.std.proofs.lemmas.Fmt.{decimal_is_IsNumeral_wide}
+use Rattle.std.proofs.lemmas.Str.Parse.{digit_from_value}
+use Rattle.std.proofs.lemmas.List.Elements.{All-nil, All-cons, All-head, All-tail, All-append}
+use Rattle.l2_lines.specs.Lines.{lines_of, before_first_line, IsLine, ended, Begins, GoesOnInNone, IsFirstBad}
+
+-- ---- where lines end
+
+is_other : (b : ℕ) → b ≢ 10 → (b == 10) ≡ false
+is_other b other = ⊎_elim (λ same. absurd (other same.1)) (λ so. so.0) (eqb_tells b 10)
+
+-- behind a whole line the next one begins
+pub lines_of-ended : (line rest : List ℕ) → IsLine line → lines_of (ended line ++ rest) ≡ ended line ∷ lines_of rest
+lines_of-ended [] rest whole = refl
+lines_of-ended (b ∷ line) rest whole =
+    ap (λ test. cond test ((10 ∷ []) ∷ lines_of (ended line ++ rest)) (before_first_line b (lines_of (ended line ++ rest)))) (is_other b (All-head (λ b. b ≢ 10) b line whole))
+    ∙ ap (before_first_line b) (lines_of-ended line rest (All-tail (λ b. b ≢ 10) b line whole))
+
+-- what no LF ends is the last line
+pub lines_of-open : (b : ℕ) (line : List ℕ) → IsLine (b ∷ line) → lines_of (b ∷ line) ≡ (b ∷ line) ∷ []
+lines_of-open b [] whole = ap (λ test. cond test ((10 ∷ []) ∷ []) ((b ∷ []) ∷ [])) (is_other b (All-head (λ b. b ≢ 10) b [] whole))
+lines_of-open b (c ∷ line) whole =
+    ap (λ test. cond test ((10 ∷ []) ∷ lines_of (c ∷ line)) (before_first_line b (lines_of (c ∷ line)))) (is_other b (All-head (λ b. b ≢ 10) b (c ∷ line) whole))
+    ∙ ap (before_first_line b) (lines_of-open c line (All-tail (λ b. b ≢ 10) b (c ∷ line) whole))
+
+-- a line with its LF, and no other one
+abbrev pub IsEnded : List ℕ → Type 0
+IsEnded text = (line : List ℕ) × IsLine line × (text ≡ ended line)
+
+-- whole lines, one after another
+abbrev pub AllEnded : List (List ℕ) → Type 0
+AllEnded [] = ⊤
+AllEnded (text ∷ lines) = IsEnded text × AllEnded lines
+
+pub all_ended-append : (xs ys : List (List ℕ)) → AllEnded xs → AllEnded ys → AllEnded (xs ++ ys)
+all_ended-append [] ys first then = then
+all_ended-append (x ∷ xs) ys first then = (first.0, all_ended-append xs ys first.1 then)
+
+-- whole lines joined are cut into the same lines
+pub lines_of-concat : (lines : List (List ℕ)) → AllEnded lines → lines_of (concat lines) ≡ lines
+lines_of-concat [] all = refl
+lines_of-concat (text ∷ lines) ((line, whole, is), all) =
+    ap (λ t. lines_of (t ++ concat lines)) is
+    ∙ lines_of-ended line (concat lines) whole
+    ∙ (λ i. sym is i ∷ lines_of-concat lines all i)
+
+-- each of some whole lines has an LF
+pub ended_among : (before : List (List ℕ)) (text : List ℕ) (after : List (List ℕ)) → AllEnded (before ++ text ∷ after) → IsEnded text
+ended_among [] text after all = all.0
+ended_among (_ ∷ before) text after all = ended_among before text after all.1
+
+-- and what has no LF is none of them
+pub open_is_no_line : (b : ℕ) (line whole : List ℕ) → IsLine (b ∷ line) → b ∷ line ≢ ended whole
+open_is_no_line b line whole unended same = clash whole (subst IsLine same unended)
+  where
+    clash : (xs : List ℕ) → IsLine (ended xs) → ⊥
+    clash [] all = All-head (λ b. b ≢ 10) 10 [] all refl
+    clash (x ∷ xs) all = clash xs (All-tail (λ b. b ≢ 10) x (ended xs) all)
+
+-- ---- words that have no LF
+
+both : (x : Bool) (y : Bool) → (not x && y) ≡ true → (x ≡ false) × (y ≡ true)
+both true y test = let no : false ≡ true = test in cc
+both false y test = (refl, test)
+
+pub plain : (xs : List ℕ) → list_all (λ b. not (b == 10)) xs ≡ true → IsLine xs
+plain [] test = All-nil (λ b. b ≢ 10)
+plain (x ∷ xs) test =
+    let parts = both (x == 10) (list_all (λ b. not (b == 10)) xs) test in
+    All-cons (λ b. b ≢ 10) x xs (eqb-false x 10 parts.0) (plain xs parts.1)
+
+digits_are_line : (ds : List ℕ) → AllDigits 10 ds → IsLine ds
+digits_are_line [] digits = All-nil (λ b. b ≢ 10)
+digits_are_line (c ∷ cs) digits = All-cons (λ b. b ≢ 10) c cs (λ same. omega (arith, digit_from_value c digits.0)) (digits_are_line cs digits.1)
+
+pub decimal_is_line : (n : ℕ) → n < 10 ^ 64 → IsLine (decimal n)
+decimal_is_line n small = digits_are_line (decimal n) (decimal_is_IsNumeral_wide n small).0.1
