@@ -5,7 +5,8 @@ use Rattle.std.specs.List.{All, concat, list_all}
 use Rattle.std.specs.Char.{digit_value}
 use Rattle.std.specs.Str.Parse.{AllDigits}
 use Rattle.std.specs.Fmt.{decimal, signed_decimal}
-use Rattle.std.proofs.Common.{ℤ, pos, negsuc, suc, ◌^◌}
+use Rattle.std.proofs.Common.{ℤ, pos, negsuc, suc, ◌^◌, ◌≤◌, drop, get_or}
+use Rattle.std.proofs.lemmas.List.{length-append}
 use Rattle.std.proofs.lemmas.Bool.Decides.{eqb_tells}
 use Rattle.std.proofs.lemmas.Bool.{eqb-false}
 use Rattle.std.specs.Prelude.{⊤, ◌&&◌}
@@ -85,3 +86,22 @@ digits_are_line (c ∷ cs) digits = All-cons (λ b. b ≢ 10) c cs (λ same. ome
 
 pub decimal_is_line : (n : ℕ) → n < 10 ^ 64 → IsLine (decimal n)
 decimal_is_line n small = digits_are_line (decimal n) (decimal_is_IsNumeral_wide n small).0.1
+
+-- ---- one line after another
+
+ended_some : (xs : List ℕ) → [] ≢ ended xs
+ended_some [] is = cc
+ended_some (x ∷ xs) is = cc
+
+-- lines are the same where they are with their LF
+pub same_line : (xs ys : List ℕ) → ended xs ≡ ended ys → xs ≡ ys
+same_line [] [] is = refl
+same_line [] (y ∷ ys) is = absurd (ended_some ys (ap (drop 1) is))
+same_line (x ∷ xs) [] is = absurd (ended_some xs (sym (ap (drop 1) is)))
+same_line (x ∷ xs) (y ∷ ys) is =
+    let first : x ≡ y = ap (λ l. get_or l 0 0) is in
+    λ i. first i ∷ same_line xs ys (ap (drop 1) is) i
+
+-- what stands behind a line is shorter than both
+pub rest_shorter : (text line rest : List ℕ) → text ≡ ended line ++ rest → length rest + 1 ≤ length text
+rest_shorter text line rest is = omega (arith, ap length is, length-append (ended line) rest, length-append line (10 ∷ []))

@@ -100,3 +100,9 @@ whole_below word digits None is says = go
     go (pos n) fits same = decimal-ne_minus n digits (omega (arith, fits.sfits)) (sym same ∙ is)
     go (negsuc n) fits same = says n (omega (arith, fits.sfits)) (ap (drop 1) (sym is ∙ same) ∙ ap decimal (omega arith))
 whole_below word digits (Some v) is (n, value, same) = is ∙ ap (λ ds. 45 ∷ ds) (same ∙ ap decimal (omega arith)) ∙ ap signed_decimal (sym value)
+
+pub signed_decimal_injective_wide : (y z : ℤ) → FitsSigned w128 y → FitsSigned w128 z → signed_decimal y ≡ signed_decimal z → y ≡ z
+signed_decimal_injective_wide (pos m) (pos n) p q same = ap pos (decimal_injective_wide m n (omega (arith, p.sfits)) (omega (arith, q.sfits)) same)
+signed_decimal_injective_wide (pos m) (negsuc n) p q same = absurd (decimal-ne_minus m _ (omega (arith, p.sfits)) same)
+signed_decimal_injective_wide (negsuc m) (pos n) p q same = absurd (decimal-ne_minus n _ (omega (arith, q.sfits)) (sym same))
+signed_decimal_injective_wide (negsuc m) (negsuc n) p q same = ap negsuc (omega (arith, decimal_injective_wide (suc m) (suc n) (omega (arith, p.sfits)) (omega (arith, q.sfits)) (ap (drop 1) same)))
