@@ -66,3 +66,31 @@ pub fn read_whole(word: &[u8]) -> Option<i128>
         },
     }
 }
+
+#[cfg(test)]
+mod tests {
+    use super::*;
+
+    #[test]
+    fn a_number_has_one_spelling(rt: HostRuntime) {
+        let naturals = [("0", Some(0)), ("7", Some(7)), ("65", Some(65)), ("66", None), ("", None), ("00", None), ("07", None), ("+7", None), ("7 ", None)];
+        for (word, want) in naturals {
+            assert_eq!(rt; read_natural(word.as_bytes(), 65), want, "at {word}");
+        }
+        let wholes = [
+            ("0", Some(0)),
+            ("-1", Some(-1)),
+            ("-0", None),
+            ("-01", None),
+            ("-", None),
+            ("--1", None),
+            ("170141183460469231731687303715884105727", Some(i128::MAX)),
+            ("170141183460469231731687303715884105728", None),
+            ("-170141183460469231731687303715884105728", Some(i128::MIN)),
+            ("-170141183460469231731687303715884105729", None),
+        ];
+        for (word, want) in wholes {
+            assert_eq!(rt; read_whole(word.as_bytes()), want, "at {word}");
+        }
+    }
+}

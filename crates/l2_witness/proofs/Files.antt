@@ -14,6 +14,8 @@ use Rattle.l2_witness.specs.Read.{Keeps, lines_before, seen}
 use Rattle.std.specs.Prelude.{FitsSigned}
 use Rattle.std.specs.Int.{w128}
 use Rattle.std.proofs.lemmas.List.Folds.{concat-append}
+use Rattle.std.proofs.lemmas.List.{map-append, take_more}
+use Rattle.std.proofs.Common.{take}
 use Rattle.l2_lines.proofs.Decimals.{decimal_injective_wide, signed_decimal_injective_wide}
 
 -- ---- the line that comes next
@@ -157,3 +159,18 @@ pub only_values : (bytes : List ℕ) (stage : Stage) (m n : ℕ) (cs ds : List �
 only_values bytes stage m n cs ds over so first second is =
     same_values m n cs ds first second
         (sym (so ∙ append-nil (lines_before stage m cs) ∙ ap (λ s. lines_before s m cs) over) ∙ spelling_lines bytes n ds second is)
+
+-- ---- the step of the loop that writes
+
+pub written_more : (choices : List ℤ) (i : ℕ) (d : ℤ) → i < length choices → concat (map choice_line (take (i + 1) choices)) ≡ concat (map choice_line (take i choices)) ++ choice_line (get_or choices i d)
+written_more choices i d inside =
+    ap (λ cs. concat (map choice_line cs)) (take_more choices i d inside)
+    ∙ ap concat (map-append choice_line (take i choices) (get_or choices i d ∷ []))
+    ∙ concat-append (map choice_line (take i choices)) (choice_line (get_or choices i d) ∷ [])
+    ∙ ap (λ x. concat (map choice_line (take i choices)) ++ x) (append-nil (choice_line (get_or choices i d)))
+
+pub written_all : (turns : ℕ) (choices : List ℤ) → ((header ++ turns_line turns) ++ concat (map choice_line choices)) ++ last_line ≡ spelling turns choices
+written_all turns choices =
+    append_assoc (header ++ turns_line turns) (concat (map choice_line choices)) last_line
+    ∙ ap (λ x. (header ++ turns_line turns) ++ x) (sym (concat-append (map choice_line choices) (last_line ∷ [])))
+    ∙ append_assoc header (turns_line turns) (concat (map choice_line choices ++ last_line ∷ []))

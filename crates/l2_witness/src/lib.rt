@@ -7,6 +7,8 @@
 mod read;
 mod reading;
 mod values;
+mod write;
 
 pub use read::read_values;
+pub use write::write_values;
 pub use values::{Values, ValuesError};

@@ -39,6 +39,7 @@ pub fn read_values(alloc: Global, bytes: &[u8]) -> Result<Values, ValuesError>
 #[cfg(test)]
 mod tests {
     use super::*;
+    use crate::write_values;
     use std::test::Fail;
 
     #[test]
@@ -73,6 +74,7 @@ mod tests {
                 (Ok(values), Ok((turns, choices))) => {
                     assert_eq!(rt; values.turns, turns);
                     assert_eq!(rt; values.choices.as_slice(), choices);
+                    assert_eq!(rt; write_values(alloc, &values)?.as_slice(), text.as_bytes());
                 }
                 (Err(error), Err(line)) => assert_eq!(rt; error, ValuesError::BadLine { line }, "at {text}"),
                 _ => panic!(rt; "at {text}"),
