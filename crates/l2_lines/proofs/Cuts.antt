@@ -1,19 +1,18 @@
 -- A text cut into its lines, line by line.
-use Rattle.std.proofs.Common.{◌≡◌, ◌≢◌, ℕ, ◌+◌, ◌<◌, Bool, true, false, not, cond, List, [], ◌∷◌, ◌++◌, length, refl, sym, ap, subst, ◌∙◌, ⊎_elim, append_assoc, append-nil, arith, ◌⊎◌, inl, inr}
+use Rattle.std.proofs.Common.{◌≡◌, ◌≢◌, ℕ, ◌+◌, ◌<◌, Bool, true, false, not, cond, List, [], ◌∷◌, ◌++◌, length, refl, sym, ap, subst, ◌∙◌, ⊎_elim, arith}
 use Rattle.std.specs.Prelude.{◌==◌}
-use Rattle.std.specs.List.{All, concat, list_all}
-use Rattle.std.specs.Char.{digit_value}
+use Rattle.std.specs.List.{concat, list_all}
 use Rattle.std.specs.Str.Parse.{AllDigits}
-use Rattle.std.specs.Fmt.{decimal, signed_decimal}
-use Rattle.std.proofs.Common.{ℤ, pos, negsuc, suc, ◌^◌, ◌≤◌, drop, get_or}
+use Rattle.std.specs.Fmt.{decimal}
+use Rattle.std.proofs.Common.{◌^◌, ◌≤◌, drop, get_or}
 use Rattle.std.proofs.lemmas.List.{length-append}
 use Rattle.std.proofs.lemmas.Bool.Decides.{eqb_tells}
 use Rattle.std.proofs.lemmas.Bool.{eqb-false}
 use Rattle.std.specs.Prelude.{⊤, ◌&&◌}
 use Rattle.std.proofs.lemmas.Fmt.{decimal_is_IsNumeral_wide}
 use Rattle.std.proofs.lemmas.Str.Parse.{digit_from_value}
-use Rattle.std.proofs.lemmas.List.Elements.{All-nil, All-cons, All-head, All-tail, All-append}
-use Rattle.l2_lines.specs.Lines.{lines_of, before_first_line, IsLine, ended, Begins, GoesOnInNone, IsFirstBad}
+use Rattle.std.proofs.lemmas.List.Elements.{All-nil, All-cons, All-head, All-tail}
+use Rattle.l2_lines.specs.Lines.{lines_of, before_first_line, IsLine, ended}
 
 -- ---- where lines end
 

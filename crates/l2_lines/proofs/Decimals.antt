@@ -1,5 +1,5 @@
 -- Decimal digits: which words spell a number, and that none spells two.
-use Rattle.std.proofs.Common.{◌≡◌, ◌≢◌, ℕ, zero, suc, ◌+◌, ◌-◌, ◌*◌, ◌/◌, ◌%◌, ◌^◌, ◌<◌, ◌≤◌, ℤ, pos, negsuc, List, [], ◌∷◌, ◌++◌, length, get_or, take, refl, sym, ap, subst, ◌∙◌, append_assoc, append-nil, arith, drop, Option, Some, None}
+use Rattle.std.proofs.Common.{◌≡◌, ◌≢◌, ℕ, zero, suc, ◌+◌, ◌*◌, ◌/◌, ◌%◌, ◌^◌, ◌<◌, ◌≤◌, ℤ, pos, negsuc, List, [], ◌∷◌, ◌++◌, length, get_or, take, refl, sym, ap, subst, ◌∙◌, append_assoc, append-nil, arith, drop, Option, Some, None}
 use Rattle.std.specs.Prelude.{MatchOption, FitsSigned}
 use Rattle.std.specs.Int.{w128}
 use Rattle.std.specs.Char.{digit_value}
@@ -21,11 +21,11 @@ pub record Starts (n : ℕ) (ds : List ℕ) : Type 0 where
 
 starts : (n : ℕ) → n < 10 ^ 64 → Starts n (decimal n)
 starts = decimal_by_steps_wide Starts
-  (λ n small. record { some = omega arith; first = λ above. omega arith })
-  (λ n ds large so. record {
-    some = omega (arith, length-append ds ((48 + n % 10) ∷ []), so.some);
-    first = λ _. let rest : 48 < get_or ds 0 0 = so.first (omega arith) in subst (λ x. 48 < x) (sym (first_of ds ((48 + n % 10) ∷ []) so.some)) rest
-  })
+    (λ n small. record { some = omega arith; first = λ above. omega arith })
+    (λ n ds large so. record {
+      some = omega (arith, length-append ds ((48 + n % 10) ∷ []), so.some);
+      first = λ _. let rest : 48 < get_or ds 0 0 = so.first (omega arith) in subst (λ x. 48 < x) (sym (first_of ds ((48 + n % 10) ∷ []) so.some)) rest;
+    })
   where
     first_of : (ds es : List ℕ) → 0 < length ds → get_or (ds ++ es) 0 0 ≡ get_or ds 0 0
     first_of [] es some = absurd (omega arith)

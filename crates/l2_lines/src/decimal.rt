@@ -73,7 +73,17 @@ mod tests {
 
     #[test]
     fn a_number_has_one_spelling(rt: HostRuntime) {
-        let naturals = [("0", Some(0)), ("7", Some(7)), ("65", Some(65)), ("66", None), ("", None), ("00", None), ("07", None), ("+7", None), ("7 ", None)];
+        let naturals = [
+            ("0", Some(0)),
+            ("7", Some(7)),
+            ("65", Some(65)),
+            ("66", None),
+            ("", None),
+            ("00", None),
+            ("07", None),
+            ("+7", None),
+            ("7 ", None),
+        ];
         for (word, want) in naturals {
             assert_eq!(rt; read_natural(word.as_bytes(), 65), want, "at {word}");
         }

@@ -17,7 +17,10 @@ pub fn first_line(text: &[u8]) -> Option<Cut<'_>>
 {
     let at = text.iter().position(|byte| *byte == b'\n')?;
     let (line, rest) = text.split_at(at);
-    Some(Cut { line, rest: &rest[1..] })
+    Some(Cut {
+        line,
+        rest: &rest[1..],
+    })
 }
 
 /// What stands behind a prefix, where the text begins with it.

@@ -1,5 +1,5 @@
 -- The lines of values files: which line may follow some others.
-use Rattle.std.proofs.Common.{◌≡◌, ◌≢◌, ◌⊎◌, inl, inr, ℕ, ◌+◌, ◌<◌, ◌≤◌, ◌^◌, ℤ, pos, negsuc, suc, List, [], ◌∷◌, ◌++◌, map, length, get_or, drop, codes, refl, sym, ap, subst, ◌∙◌, append_assoc, append-nil, arith}
+use Rattle.std.proofs.Common.{◌≡◌, ◌≢◌, ◌⊎◌, inl, inr, ℕ, ◌+◌, ◌<◌, ◌≤◌, ℤ, pos, negsuc, suc, List, [], ◌∷◌, ◌++◌, map, length, get_or, drop, codes, refl, sym, ap, subst, ◌∙◌, append_assoc, append-nil, arith}
 use Rattle.std.specs.Fmt.{decimal, signed_decimal}
 use Rattle.std.specs.List.{All, concat}
 use Rattle.std.proofs.lemmas.Int.{ints}
@@ -78,10 +78,13 @@ choices_ended (c ∷ choices) all = ((codes "choice " ++ signed_decimal c, All-a
     signed (negsuc n) fits = All-cons (λ b. b ≢ 10) 45 (decimal (suc n)) (λ same. omega (arith, same)) (decimal_is_line (suc n) (omega (arith, ints, fits.0, fits.1)))
 
 pub file_ended : (turns : ℕ) (choices : List ℤ) → InRange turns choices → AllEnded (file_lines turns choices)
-file_ended turns choices range =
-    ((codes "2ls values 1", plain (codes "2ls values 1") refl, refl),
-    ((codes "turns " ++ decimal turns, All-append (λ b. b ≢ 10) (codes "turns ") (decimal turns) (plain (codes "turns ") refl) (decimal_is_line turns (omega (arith, range.turns_within))), refl),
-    all_ended-append (map choice_line choices) (last_line ∷ []) (choices_ended choices range.choices_within) ((codes "end", plain (codes "end") refl, refl), tt)))
+file_ended turns choices range = (
+  (codes "2ls values 1", plain (codes "2ls values 1") refl, refl),
+  (
+    (codes "turns " ++ decimal turns, All-append (λ b. b ≢ 10) (codes "turns ") (decimal turns) (plain (codes "turns ") refl) (decimal_is_line turns (omega (arith, range.turns_within))), refl),
+    all_ended-append (map choice_line choices) (last_line ∷ []) (choices_ended choices range.choices_within) ((codes "end", plain (codes "end") refl, refl), tt),
+  ),
+)
 
 -- so a line without one is in no file
 pub open_line : (before : List (List ℕ)) (text : List ℕ) → 0 < length text → IsLine text → GoesOnInNone IsFile before (lines_of text)
@@ -135,9 +138,10 @@ same_turns : (m n : ℕ) → m ≤ 100000000 → n ≤ 100000000 → turns_line 
 same_turns m n first second is = decimal_injective_wide m n (omega arith) (omega arith) (ap (drop 6) (same_line (codes "turns " ++ decimal m) (codes "turns " ++ decimal n) is))
 
 pub same_values : (m n : ℕ) (cs ds : List ℤ) → InRange m cs → InRange n ds → file_lines m cs ≡ file_lines n ds → (m ≡ n) × (cs ≡ ds)
-same_values m n cs ds first second is =
-    (same_turns m n first.turns_within second.turns_within (ap (λ l. get_or l 1 []) is),
-     same_choices cs ds first.choices_within second.choices_within (ap (drop 2) is))
+same_values m n cs ds first second is = (
+  same_turns m n first.turns_within second.turns_within (ap (λ l. get_or l 1 []) is),
+  same_choices cs ds first.choices_within second.choices_within (ap (drop 2) is),
+)
 
 -- ---- the step of the loop that reads
 
@@ -158,7 +162,7 @@ lines_more bytes text line rest lines so whole is =
 pub only_values : (bytes : List ℕ) (stage : Stage) (m n : ℕ) (cs ds : List ℤ) → stage ≡ Over → lines_of bytes ≡ lines_before stage m cs ++ [] → InRange m cs → InRange n ds → bytes ≡ spelling n ds → (m ≡ n) × (cs ≡ ds)
 only_values bytes stage m n cs ds over so first second is =
     same_values m n cs ds first second
-        (sym (so ∙ append-nil (lines_before stage m cs) ∙ ap (λ s. lines_before s m cs) over) ∙ spelling_lines bytes n ds second is)
+    (sym (so ∙ append-nil (lines_before stage m cs) ∙ ap (λ s. lines_before s m cs) over) ∙ spelling_lines bytes n ds second is)
 
 -- ---- the step of the loop that writes
 

@@ -10,5 +10,5 @@ mod values;
 mod write;
 
 pub use read::read_values;
-pub use write::write_values;
 pub use values::{Values, ValuesError};
+pub use write::write_values;

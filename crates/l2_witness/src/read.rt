@@ -13,8 +13,8 @@ pub fn read_values(alloc: Global, bytes: &[u8]) -> Result<Values, ValuesError>
     // bytes that spell values are read as these, and as no other ones
     ensures exactly { (turns : ℕ) (choices : List ℤ) → InRange turns choices → bytes.now ≡ spelling turns choices →
         MatchResult result
-            (λ v. (v.turns ≡ turns) × (v.choices.items ≡ choices))
-            (λ e. e ≡ ValuesError.NoMemory) }
+        (λ v. (v.turns ≡ turns) × (v.choices.items ≡ choices))
+        (λ e. e ≡ ValuesError.NoMemory) }
 {
     let mut reading = Reading::new(alloc);
     let mut rest = bytes;
@@ -47,8 +47,10 @@ mod tests {
         let alloc = rt.alloc();
         let rows = [
             ("2ls values 1\nturns 0\nend\n", Ok((0, &[][..]))),
-            ("2ls values 1\nturns 100000000\nchoice 7\nchoice -9223372036854775808\nchoice 18446744073709551615\nend\n",
-                Ok((100_000_000, &[7, -(1 << 63), (1 << 64) - 1][..]))),
+            (
+                "2ls values 1\nturns 100000000\nchoice 7\nchoice -9223372036854775808\nchoice 18446744073709551615\nend\n",
+                Ok((100_000_000, &[7, -(1 << 63), (1 << 64) - 1][..])),
+            ),
             ("", Err(1)),
             ("\n", Err(1)),
             ("2ls values 1\r\n", Err(1)),
@@ -62,8 +64,14 @@ mod tests {
             ("2ls values 1\nturns -1\nend\n", Err(2)),
             ("2ls values 1\nturns 1\nchoice -0\nend\n", Err(3)),
             ("2ls values 1\nturns 1\nchoice +1\nend\n", Err(3)),
-            ("2ls values 1\nturns 1\nchoice 1\nchoice 18446744073709551616\nend\n", Err(4)),
-            ("2ls values 1\nturns 1\nchoice -9223372036854775809\nend\n", Err(3)),
+            (
+                "2ls values 1\nturns 1\nchoice 1\nchoice 18446744073709551616\nend\n",
+                Err(4),
+            ),
+            (
+                "2ls values 1\nturns 1\nchoice -9223372036854775809\nend\n",
+                Err(3),
+            ),
             ("2ls values 1\nturns 1\nchoice 5 \nend\n", Err(3)),
             ("2ls values 1\nturns 1\nend\n\n", Err(4)),
             ("2ls values 1\nturns 1\nend\nend\n", Err(4)),
@@ -76,7 +84,11 @@ mod tests {
                     assert_eq!(rt; values.choices.as_slice(), choices);
                     assert_eq!(rt; write_values(alloc, &values)?.as_slice(), text.as_bytes());
                 }
-                (Err(error), Err(line)) => assert_eq!(rt; error, ValuesError::BadLine { line }, "at {text}"),
+                (Err(error), Err(line)) => assert_eq!(rt;
+                    error,
+                    ValuesError::BadLine { line },
+                    "at {text}"
+                ),
                 _ => panic!(rt; "at {text}"),
             }
         }

@@ -34,7 +34,9 @@ pub struct Reading {
 }
 
 const MOST_TURNS: u128 = 100_000_000;
+
 const LEAST_CHOICE: i128 = -(1 << 63);
+
 const MOST_CHOICE: i128 = (1 << 64) - 1;
 
 /// The number of turns that a line tells.

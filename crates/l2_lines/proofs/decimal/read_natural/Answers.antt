@@ -1,4 +1,4 @@
-use Rattle.std.proofs.Common.{◌≡◌, ◌≢◌, ℕ, MatchOption, ◌≤◌, ◌<◌, ◌+◌, ◌*◌, ◌^◌, true, false, take, length, get_or, slice_index_or, rules, arith, sym, ap, subst, ◌∙◌}
+use Rattle.std.proofs.Common.{◌≡◌, ◌≢◌, ℕ, MatchOption, ◌≤◌, ◌<◌, ◌+◌, ◌*◌, true, false, take, length, get_or, rules, arith, sym, ap, subst, ◌∙◌}
 use Rattle.std.specs.Char.{digit_value}
 use Rattle.std.specs.Str.Parse.{AllDigits, digits_value}
 use Rattle.std.specs.Fmt.{decimal}
@@ -32,7 +32,7 @@ loop-byte-preserved c =
     record {
       digits = digits_more 10 c.args.word.now c.loop-byte.byte-index inside c.loop-byte.invariant.digits pushed.0.0;
       value = omega (arith, pushed.1, c.loop-byte.invariant.value, digits_value_more 10 c.args.word.now c.loop-byte.byte-index inside);
-      within = omega (arith, pushed.0.1, pushed.1)
+      within = omega (arith, pushed.0.1, pushed.1);
     }
 
 pub returns : goal.returns

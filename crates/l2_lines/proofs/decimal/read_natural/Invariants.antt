@@ -7,5 +7,5 @@ abbrev pub invariant-loop-byte : goal.invariant-loop-byte
 invariant-loop-byte l = record {
   digits : AllDigits 10 (take l.byte-index l.word);
   value : l.value ≡ digits_value 10 (take l.byte-index l.word);
-  within : l.value ≤ l.most
+  within : l.value ≤ l.most;
 }

@@ -1,4 +1,4 @@
-use Rattle.std.proofs.Common.{◌≡◌, ◌∷◌, ap, ◌∙◌}
+use Rattle.std.proofs.Common.{◌∷◌, ap, ◌∙◌}
 use Rattle.l2_lines.proofs.Decimals.{whole_below}
 use Rattle.l2_lines.proofs.decimal.read_whole.Goals as goal
 

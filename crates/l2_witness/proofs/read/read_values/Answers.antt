@@ -1,7 +1,7 @@
-use Rattle.std.proofs.Common.{◌≡◌, ◌≢◌, ◌++◌, ◌∷◌, [], ◌+◌, ◌∙◌, Err, List, ℕ, length, arith, ap, sym, subst, rules}
+use Rattle.std.proofs.Common.{◌≡◌, ◌≢◌, ◌++◌, ◌∷◌, [], ◌∙◌, Err, List, ℕ, length, arith, ap, sym, subst, rules}
 use Rattle.std.proofs.lemmas.List.{length-append}
 use Rattle.std.specs.List.{concat}
-use Rattle.l2_lines.specs.Lines.{IsFirstBad, IsLine, ended, lines_of}
+use Rattle.l2_lines.specs.Lines.{IsFirstBad, ended, lines_of}
 use Rattle.l2_lines.proofs.Cuts.{rest_shorter}
 use Rattle.l2_witness.specs.declared.reading.Stage.TheVariants.{Over}
 use Rattle.l2_witness.specs.declared.values.ValuesError.TheVariants.{BadLine}
@@ -36,7 +36,7 @@ loop-rest-preserved c =
       lines = lines_more c.args.bytes.now c.loop-rest.rest.now read.0 c.in-Ok.more.now (seen c.loop-rest.reading) old.lines read.1 read.2 ∙ ap (λ lines. lines ++ lines_of c.in-Ok.more.now) (sym read.3);
       counted = omega (arith, old.counted, ap length read.3, length-append (seen c.loop-rest.reading) (ended read.0 ∷ []));
       keeps = c.in-Ok.ensures.keeps;
-      within = omega (arith, old.within, rest_shorter c.loop-rest.rest.now read.0 c.in-Ok.more.now read.2)
+      within = omega (arith, old.within, rest_shorter c.loop-rest.rest.now read.0 c.in-Ok.more.now read.2);
     }
 
 -- behind the loop nothing is left
@@ -59,5 +59,5 @@ returns-in_default c =
     record {
       ok = tt;
       bad_line = λ line is. let same : BadLine c.loop-rest.line ≡ BadLine line = cc in named c.args.bytes.now c.loop-rest.line line same first;
-      exactly = λ turns choices range is. absurd (bad_is_no_file c.args.bytes.now c.loop-rest.line turns choices first range is)
+      exactly = λ turns choices range is. absurd (bad_is_no_file c.args.bytes.now c.loop-rest.line turns choices first range is);
     }

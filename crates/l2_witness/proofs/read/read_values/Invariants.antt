@@ -11,7 +11,7 @@ invariant-loop-rest l = record {
   lines : lines_of l.bytes ≡ seen l.reading ++ lines_of l.rest;
   counted : l.line ≡ length (seen l.reading) + 1;
   keeps : Keeps l.reading;
-  within : l.line + length l.rest ≤ length l.bytes + 1
+  within : l.line + length l.rest ≤ length l.bytes + 1;
 }
 
 abbrev pub decreases-loop-rest : goal.decreases-loop-rest

@@ -1,7 +1,7 @@
-use Rattle.std.proofs.Common.{◌≡◌, ◌∷◌, ◌++◌, ◌∙◌, Bool, true, false, codes, FitsSigned, of_z, to_z, rules, sym, ap, subst, drop, arith}
+use Rattle.std.proofs.Common.{◌≡◌, ◌++◌, ◌∙◌, true, false, codes, FitsSigned, rules, sym, ap, subst, drop}
 use Rattle.std.specs.Int.{w128}
 use Rattle.std.specs.Fmt.{signed_decimal}
-use Rattle.std.proofs.lemmas.Int.{ints, to_z-of_z}
+use Rattle.std.proofs.lemmas.Int.{to_z-of_z}
 use Rattle.l2_lines.proofs.Decimals.{signed_decimal_injective_wide}
 use Rattle.l2_witness.specs.ValuesFile.{IsChoice}
 use Rattle.l2_witness.proofs.Files.{choice_fits}
