@@ -1,18 +1,16 @@
 -- A text cut into its lines, line by line.
-use Rattle.std.proofs.Common.{◌≡◌, ◌≢◌, ℕ, ◌+◌, ◌<◌, Bool, true, false, not, cond, List, [], ◌∷◌, ◌++◌, length, refl, sym, ap, subst, ◌∙◌, ⊎_elim, arith}
-use Rattle.std.specs.Prelude.{◌==◌}
+use Rattle.std.proofs.Common.{◌≡◌, ◌≢◌, ℕ, ◌+◌, ◌<◌, Bool, true, false, not, cond, List, [], ◌∷◌, ◌++◌, length, refl, sym, ap, subst, ◌∙◌, ⊎_elim, inl, inr, arith, ◌^◌, ◌≤◌, drop, get_or}
 use Rattle.std.specs.List.{concat, list_all}
 use Rattle.std.specs.Str.Parse.{AllDigits}
 use Rattle.std.specs.Fmt.{decimal}
-use Rattle.std.proofs.Common.{◌^◌, ◌≤◌, drop, get_or}
 use Rattle.std.proofs.lemmas.List.{length-append}
 use Rattle.std.proofs.lemmas.Bool.Decides.{eqb_tells}
-use Rattle.std.proofs.lemmas.Bool.{eqb-false}
-use Rattle.std.specs.Prelude.{⊤, ◌&&◌}
+use Rattle.std.proofs.lemmas.Bool.{eqb-false, eqb-true}
+use Rattle.std.specs.Prelude.{◌==◌, ◌&&◌, ⊤}
 use Rattle.std.proofs.lemmas.Fmt.{decimal_is_IsNumeral_wide}
 use Rattle.std.proofs.lemmas.Str.Parse.{digit_from_value}
 use Rattle.std.proofs.lemmas.List.Elements.{All-nil, All-cons, All-head, All-tail}
-use Rattle.l2_lines.specs.Lines.{lines_of, before_first_line, IsLine, ended}
+use Rattle.l2_lines.specs.Lines.{AreLines, IsEnded, IsLine, before_first_line, ended, lines_of}
 
 -- ---- where lines end
 
@@ -32,10 +30,6 @@ lines_of-open b [] whole = ap (λ test. cond test ((10 ∷ []) ∷ []) ((b ∷ [
 lines_of-open b (c ∷ line) whole =
     ap (λ test. cond test ((10 ∷ []) ∷ lines_of (c ∷ line)) (before_first_line b (lines_of (c ∷ line)))) (is_other b (All-head (λ b. b ≢ 10) b (c ∷ line) whole))
     ∙ ap (before_first_line b) (lines_of-open c line (All-tail (λ b. b ≢ 10) b (c ∷ line) whole))
-
--- a line with its LF, and no other one
-abbrev pub IsEnded : List ℕ → Type 0
-IsEnded text = (line : List ℕ) × IsLine line × (text ≡ ended line)
 
 -- whole lines, one after another
 abbrev pub AllEnded : List (List ℕ) → Type 0
@@ -104,3 +98,38 @@ same_line (x ∷ xs) (y ∷ ys) is =
 -- what stands behind a line is shorter than both
 pub rest_shorter : (text line rest : List ℕ) → text ≡ ended line ++ rest → length rest + 1 ≤ length text
 rest_shorter text line rest is = omega (arith, ap length is, length-append (ended line) rest, length-append line (10 ∷ []))
+
+-- ---- the lines are the text
+
+joined_first : (b : ℕ) (lines : List (List ℕ)) → concat (before_first_line b lines) ≡ b ∷ concat lines
+joined_first b [] = refl
+joined_first b (line ∷ lines) = refl
+
+pub concat-lines_of : (text : List ℕ) → concat (lines_of text) ≡ text
+concat-lines_of [] = refl
+concat-lines_of (b ∷ text) = go (b == 10) refl (concat-lines_of text)
+  where
+    go : (test : Bool) → (b == 10) ≡ test → concat (lines_of text) ≡ text → concat (lines_of (b ∷ text)) ≡ b ∷ text
+    go true is rest = ap (λ t. concat (cond t ((10 ∷ []) ∷ lines_of text) (before_first_line b (lines_of text)))) is ∙ (λ i. sym (eqb-true b 10 is) i ∷ rest i)
+    go false is rest = ap (λ t. concat (cond t ((10 ∷ []) ∷ lines_of text) (before_first_line b (lines_of text)))) is ∙ joined_first b (lines_of text) ∙ ap (λ x. b ∷ x) rest
+
+longer : (b : ℕ) (text : List ℕ) → b ≢ 10 → IsEnded text → IsEnded (b ∷ text)
+longer b text other (line, whole, is) = (b ∷ line, All-cons (λ b. b ≢ 10) b line other whole, ap (λ t. b ∷ t) is)
+
+first_grows : (b : ℕ) (lines : List (List ℕ)) → b ≢ 10 → AreLines lines → AreLines (before_first_line b lines)
+first_grows b [] other are = inr (All-cons (λ b. b ≢ 10) b [] other (All-nil (λ b. b ≢ 10)), omega arith)
+first_grows b (text ∷ []) other (inl whole) = inl (longer b text other whole)
+first_grows b (text ∷ []) other (inr unended) = inr (All-cons (λ b. b ≢ 10) b text other unended.0, omega arith)
+first_grows b (text ∷ next ∷ lines) other are = (longer b text other are.0, are.1)
+
+line_before : (lines : List (List ℕ)) → AreLines lines → AreLines ((10 ∷ []) ∷ lines)
+line_before [] are = inl ([], All-nil (λ b. b ≢ 10), refl)
+line_before (text ∷ lines) are = (([], All-nil (λ b. b ≢ 10), refl), are)
+
+pub lines_of_are : (text : List ℕ) → AreLines (lines_of text)
+lines_of_are [] = tt
+lines_of_are (b ∷ text) = go (b == 10) refl (lines_of_are text)
+  where
+    go : (test : Bool) → (b == 10) ≡ test → AreLines (lines_of text) → AreLines (lines_of (b ∷ text))
+    go true is rest = subst (λ t. AreLines (cond t ((10 ∷ []) ∷ lines_of text) (before_first_line b (lines_of text)))) (sym is) (line_before (lines_of text) rest)
+    go false is rest = subst (λ t. AreLines (cond t ((10 ∷ []) ∷ lines_of text) (before_first_line b (lines_of text)))) (sym is) (first_grows b (lines_of text) (eqb-false b 10 is) rest)

@@ -1,5 +1,5 @@
 -- The lines of a text, and the first of them that no file has after those before it.
-use Rattle.std.specs.Prelude.{◌≡◌, ◌≢◌, ℕ, ◌+◌, ◌==◌, if◌then◌else◌, List, [], ◌∷◌, ◌++◌, length}
+use Rattle.std.specs.Prelude.{◌≡◌, ◌≢◌, ◌⊎◌, ⊤, ℕ, ◌+◌, ◌<◌, ◌==◌, if◌then◌else◌, List, [], ◌∷◌, ◌++◌, length}
 use Rattle.std.specs.List.{All}
 
 -- a byte before the first line
@@ -16,14 +16,26 @@ lines_of (b ∷ bs) = if b == 10 then (10 ∷ []) ∷ lines_of bs else before_fi
 abbrev pub IsLine : List ℕ → Type 0
 IsLine line = All (λ b. b ≢ 10) line
 
+-- a line with its LF behind it
 abbrev pub ended : List ℕ → List ℕ
 ended line = line ++ 10 ∷ []
+
+-- this is a line with its LF
+abbrev pub IsEnded : List ℕ → Type 0
+IsEnded text = (line : List ℕ) × IsLine line × (text ≡ ended line)
+
+-- lines as they stand in a text: each but the last ends with its only LF, and the last one may have none
+abbrev pub AreLines : List (List ℕ) → Type 0
+AreLines [] = ⊤
+AreLines (text ∷ []) = IsEnded text ⊎ (IsLine text × (0 < length text))
+AreLines (text ∷ next ∷ lines) = IsEnded text × AreLines (next ∷ lines)
 
 -- some file begins with these lines
 abbrev pub Begins : (List (List ℕ) → Type 0) → List (List ℕ) → Type 0
 Begins IsFile given = (more : List (List ℕ)) × IsFile (given ++ more)
 
--- no file goes on so: it has more lines than those before, where nothing follows, and another one there else
+-- no file goes on like the second lines behind the first: where nothing follows none ends there, and else none has the
+-- next line there
 abbrev pub GoesOnInNone : (List (List ℕ) → Type 0) → List (List ℕ) → List (List ℕ) → Type 0
 GoesOnInNone IsFile before [] = ¬ IsFile before
 GoesOnInNone IsFile before (line ∷ _) = ¬ Begins IsFile (before ++ line ∷ [])

@@ -5,4 +5,4 @@ mod decimal;
 mod line;
 
 pub use decimal::{read_natural, read_whole};
-pub use line::{Cut, first_line, strip};
+pub use line::{Cut, first_line, lines_law, strip};

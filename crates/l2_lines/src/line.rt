@@ -1,5 +1,6 @@
 ghost use Rattle.std.specs.Prelude.{◌≡◌, ◌≢◌, List, ℕ, ◌++◌, MatchOption};
-ghost use Rattle.l2_lines.specs.Lines.{IsLine, ended};
+ghost use Rattle.std.specs.List.{concat};
+ghost use Rattle.l2_lines.specs.Lines.{AreLines, IsLine, ended, lines_of};
 
 /// A text cut behind its first line.
 #[derive(Clone, Copy, Debug)]
@@ -22,6 +23,12 @@ pub fn first_line(text: &[u8]) -> Option<Cut<'_>>
         rest: &rest[1..],
     })
 }
+
+/// Law: the lines of a text, joined, are the text, and each but the last ends with its only LF.
+pub fn lines_law(_text: &[u8])
+    ensures joined { concat (lines_of _text.now) ≡ _text.now }
+    ensures cut { AreLines (lines_of _text.now) }
+{}
 
 /// What stands behind a prefix, where the text begins with it.
 pub fn strip<'a>(text: &'a [u8], prefix: &[u8]) -> Option<&'a [u8]>
