@@ -1,0 +1,5 @@
+pub mod BitLaws
+pub mod Bounds
+pub mod Congruences
+pub mod Products
+pub mod Wraps

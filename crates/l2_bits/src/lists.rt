@@ -1,0 +1,64 @@
+ghost use Rattle.std.specs.Prelude.{◌≡◌};
+
+use std::marker::Model;
+
+/// A `Vec` that contracts see as the list of its items.
+#[derive(Debug, Drop)]
+pub struct List<T> {
+    items: Vec<T>,
+}
+
+impl<T> Model for List<T> {
+    ghost use Rattle.std.specs.Prelude.{List};
+    ghost use Rattle.std.specs.Coded.{coded_list};
+
+    ghost Value = { List T };
+
+    ghost coded = { coded_list T.code };
+
+    ghost view = { λ list. list.items.items };
+}
+
+impl<T> List<T> {
+    pub fn new(items: Vec<T>) -> List<T>
+        ensures { result ≡ items.items }
+    {
+        List { items }
+    }
+
+    pub fn as_slice(&self) -> &[T]
+        ensures { result.now ≡ self.now }
+    {
+        self.items.as_slice()
+    }
+
+    pub fn into_vec(self) -> Vec<T>
+        ensures { result.items ≡ self }
+    {
+        let List { items } = self;
+        items
+    }
+}
+
+#[cfg(test)]
+mod tests {
+    use super::*;
+    use std::test::Fail;
+    use crate::types::Ty;
+
+    #[derive(Copy, Clone, PartialEq, Eq, Debug)]
+    enum CellType {
+        Integer(Ty),
+        Pointer,
+    }
+
+    #[test]
+    fn gives_back_what_it_was_made_of(rt: HostRuntime) -> Result<(), Fail> {
+        let types = [CellType::Integer(Ty::INT), CellType::Pointer].to_vec(rt.alloc())?;
+        let list = List::new(types);
+        assert_eq!(rt; list.as_slice().len(), 2);
+        let back = list.into_vec();
+        assert_eq!(rt; back.as_slice(), [CellType::Integer(Ty::INT), CellType::Pointer].as_slice());
+        Ok(())
+    }
+}
