@@ -27,7 +27,7 @@ one_of x (suc (suc y)) p h k l e = absurd (omega arith)
 turned_bit : (w m i : ℕ) → m < 2 ^ w → i < w → bit_at (2 ^ w - 1 - m) i + bit_at m i ≡ 1
 turned_bit w m i h l =
     one_of (bit_at (2 ^ w - 1 - m) i) (bit_at m i) (2 ^ i) (bit_at-lt (2 ^ w - 1 - m) i) (bit_at-lt m i) (pow_pos i)
-      (ap (λ x. x + bit_at m i * 2 ^ i) (sym (and_pow (2 ^ w - 1 - m) i)) ∙ ap (λ x. bit_and (2 ^ w - 1 - m) (2 ^ i) + x) (sym (and_pow m i)) ∙ and-not w m (2 ^ i) h (pow_below i w l))
+    (ap (λ x. x + bit_at m i * 2 ^ i) (sym (and_pow (2 ^ w - 1 - m) i)) ∙ ap (λ x. bit_and (2 ^ w - 1 - m) (2 ^ i) + x) (sym (and_pow m i)) ∙ and-not w m (2 ^ i) h (pow_below i w l))
 
 turned_test : (x y : ℕ) → x + y ≡ 1 → (x == 1) ≡ not (y == 1)
 turned_test zero y e = let s : y ≡ 1 = omega arith in rw s refl
@@ -112,5 +112,5 @@ same_by_bits ty u v p q each =
     let rv = residue (modulus ty) v in
     let some = pow_pos ty.width in
     let same : ru ≡ rv = same_from_bits_below ty.width ru rv (residue-lt (modulus ty) u some) (residue-lt (modulus ty) v some)
-        (λ i h. test_same (bit_at ru i) (bit_at rv i) (bit_at-lt ru i) (bit_at-lt rv i) (sym (bit-residue ty.width u i h) ∙ each i h ∙ bit-residue ty.width v i h)) in
+    (λ i h. test_same (bit_at ru i) (bit_at rv i) (bit_at-lt ru i) (bit_at-lt rv i) (sym (bit-residue ty.width u i h) ∙ each i h ∙ bit-residue ty.width v i h)) in
     values_same ty u v p q (meet_trans (modulus ty) u (pos ru) v (meet_sym (modulus ty) (pos ru) u (residue-meet (modulus ty) u some)) (subst (λ r. Meet (modulus ty) (pos r) v) (sym same) (residue-meet (modulus ty) v some)))

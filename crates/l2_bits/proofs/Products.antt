@@ -16,8 +16,8 @@ meet_product n a b c d p q =
 pub residues-meet : (n : ℕ) (a b : ℤ) → 0 < n → Meet n (pos ((residue n a * residue n b) % n)) (a *ℤ b)
 residues-meet n a b h =
     meet_trans n (pos ((residue n a * residue n b) % n)) (pos (residue n a * residue n b)) (a *ℤ b)
-      (residue-meet n (pos (residue n a * residue n b)) h)
-      (meet_product n (pos (residue n a)) (pos (residue n b)) a b (residue-meet n a h) (residue-meet n b h))
+    (residue-meet n (pos (residue n a * residue n b)) h)
+    (meet_product n (pos (residue n a)) (pos (residue n b)) a b (residue-meet n a h) (residue-meet n b h))
 
 pub wrap_product : (ty : Ty) (a b : ℤ) → wrap ty (pos ((residue (modulus ty) a * residue (modulus ty) b) % modulus ty)) ≡ mul ty a b
 wrap_product ty a b = wrap_same ty (pos ((residue (modulus ty) a * residue (modulus ty) b) % modulus ty)) (a *ℤ b) (residues-meet (modulus ty) a b (pow_pos ty.width))

@@ -6,6 +6,8 @@ mod bits;
 pub mod laws;
 mod lists;
 mod operators;
+#[cfg(test)]
+mod tests;
 mod types;
 mod values;
 

@@ -43,8 +43,8 @@ impl<T> List<T> {
 #[cfg(test)]
 mod tests {
     use super::*;
-    use std::test::Fail;
     use crate::types::Ty;
+    use std::test::Fail;
 
     #[derive(Copy, Clone, PartialEq, Eq, Debug)]
     enum CellType {
@@ -58,7 +58,10 @@ mod tests {
         let list = List::new(types);
         assert_eq!(rt; list.as_slice().len(), 2);
         let back = list.into_vec();
-        assert_eq!(rt; back.as_slice(), [CellType::Integer(Ty::INT), CellType::Pointer].as_slice());
+        assert_eq!(rt;
+            back.as_slice(),
+            [CellType::Integer(Ty::INT), CellType::Pointer].as_slice()
+        );
         Ok(())
     }
 }

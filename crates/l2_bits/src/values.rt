@@ -86,7 +86,7 @@ fn computed_wrap(ty: Ty, v: i128) -> i128
 /// The value of the type that is congruent to `v` modulo 2^width.
 pub fn wrap(ty: Ty, v: i128) -> i128
     ensures is { result ≡ wrap ty v }
-    ensures only { IsWrapOf ty v result }
+    ensures congruent { IsWrapOf ty v result }
 {
     computed_wrap(ty, v)
 }
