@@ -1,16 +1,16 @@
 -- The bits of what wraps, and of what the operations on bits make.
-use Rattle.std.proofs.Common.{◌≡◌, ℕ, zero, suc, ◌+◌, ◌-◌, ◌*◌, ◌/◌, ◌%◌, ◌^◌, ◌<◌, ◌==◌, min, max, ℤ, pos, negsuc, Bool, true, false, not, ◌&&◌, ◌||◌, bit_and, bit_or, bit_xor, refl, ap, sym, ◌∙◌, subst, arith}
+use Rattle.std.proofs.Common.{◌≡◌, ℕ, zero, suc, ◌+◌, ◌-◌, ◌*◌, ◌/◌, ◌%◌, ◌^◌, ◌<◌, ◌==◌, min, max, cond, ℤ, pos, negsuc, neg_ℤ, int_lt, ◌≤ℤ◌, Bool, true, false, not, ◌&&◌, ◌||◌, bit_and, bit_or, bit_xor, refl, ap, sym, ◌∙◌, subst, arith}
 use Rattle.std.specs.Int.{bit_at}
 use Rattle.std.proofs.lemmas.Int.{ints}
-use Rattle.std.proofs.lemmas.Bool.{eqb-true, eq-eqb}
 use Rattle.std.proofs.lemmas.Nat.{pow_pos, pow_below, div-add-mod', and-not}
-use Rattle.std.proofs.lemmas.Nat.Bits.{bit_at-lt, bit_at_cat_low, bit_at_and, bit_at_or, bit_at_xor, and_pow, same_from_bits_below}
-use Rattle.std.proofs.Math.Nat.{mod-lt}
+use Rattle.std.proofs.lemmas.Nat.Bits.{bit_at-lt, bit_at_above, bit_at_cat_low, bit_at_and, bit_at_or, bit_at_xor, and_pow, same_from_bits_below}
+use Rattle.std.proofs.Math.Nat.{mod-lt, le_refl}
 use Rattle.l2_bits.specs.declared.types.Ty.{Ty}
 use Rattle.l2_bits.specs.Values.{modulus, residue, wrap, IsValue}
 use Rattle.l2_bits.specs.Bits.{bit, bitwise, and, or, xor, differ}
-use Rattle.l2_bits.proofs.Congruences.{Meet, near_same, meet_sym, meet_trans}
-use Rattle.l2_bits.proofs.Wraps.{residue-lt, residue-meet, wrap-meet, values_same}
+use Rattle.l2_bits.proofs.Congruences.{Meet, meet_sym, meet_trans}
+use Rattle.l2_bits.proofs.Residues.{residue-wrap}
+use Rattle.l2_bits.proofs.Wraps.{residue-lt, residue-meet, values_same}
 
 low_bit : (w a i : ℕ) → i < w → bit_at (a % 2 ^ w) i ≡ bit_at a i
 low_bit w a i h = sym (bit_at_cat_low (a / 2 ^ w) w (a % 2 ^ w) i h) ∙ ap (λ x. bit_at x i) (div-add-mod' a (2 ^ w))
@@ -40,19 +40,10 @@ bit-residue w (negsuc a) i h =
     ap (λ x. not (x == 1)) (sym (low_bit w a i h))
     ∙ sym (turned_test (bit_at (2 ^ w - 1 - a % 2 ^ w) i) (bit_at (a % 2 ^ w) i) (turned_bit w (a % 2 ^ w) i (mod-lt a (pow_pos w)) h))
 
--- congruent numbers have one residue
-residue-same : (n : ℕ) (u v : ℤ) → 0 < n → Meet n u v → residue n u ≡ residue n v
-residue-same n u v h m =
-    let lu = residue-lt n u h in
-    let lv = residue-lt n v h in
-    let together : Meet n (pos (residue n u)) (pos (residue n v)) = meet_trans n (pos (residue n u)) u (pos (residue n v)) (residue-meet n u h) (meet_trans n u v (pos (residue n v)) m (meet_sym n (pos (residue n v)) v (residue-meet n v h))) in
-    let same : pos (residue n u) ≡ pos (residue n v) = near_same n (pos (residue n u)) (pos (residue n v)) together (omega (arith, ints)) (omega (arith, ints)) in
-    cc
-
 -- wrapping keeps the bits below the width
 pub bit-wrap : (ty : Ty) (v : ℤ) (i : ℕ) → i < ty.width → bit (wrap ty v) i ≡ bit v i
 bit-wrap ty v i h =
-    bit-residue ty.width (wrap ty v) i h ∙ ap (λ r. bit_at r i == 1) (residue-same (modulus ty) (wrap ty v) v (pow_pos ty.width) (wrap-meet ty v)) ∙ sym (bit-residue ty.width v i h)
+    bit-residue ty.width (wrap ty v) i h ∙ ap (λ r. bit_at r i == 1) (residue-wrap ty v) ∙ sym (bit-residue ty.width v i h)
 
 bitwise-bit : (f : ℕ → ℕ → ℕ) (g : Bool → Bool → Bool) → ((x y i : ℕ) → (bit_at (f x y) i == 1) ≡ g (bit_at x i == 1) (bit_at y i == 1))
     → (ty : Ty) (a b : ℤ) (i : ℕ) → i < ty.width → bit (bitwise f ty a b) i ≡ g (bit a i) (bit b i)
@@ -114,3 +105,22 @@ same_by_bits ty u v p q each =
     let same : ru ≡ rv = same_from_bits_below ty.width ru rv (residue-lt (modulus ty) u some) (residue-lt (modulus ty) v some)
     (λ i h. test_same (bit_at ru i) (bit_at rv i) (bit_at-lt ru i) (bit_at-lt rv i) (sym (bit-residue ty.width u i h) ∙ each i h ∙ bit-residue ty.width v i h)) in
     values_same ty u v p q (meet_trans (modulus ty) u (pos ru) v (meet_sym (modulus ty) (pos ru) u (residue-meet (modulus ty) u some)) (subst (λ r. Meet (modulus ty) (pos r) v) (sym same) (residue-meet (modulus ty) v some)))
+
+-- the highest bit of a value of a type with a sign says whether it is negative
+pub bit_of_sign : (ty : Ty) (v : ℤ) → ty.signed ≡ true → IsValue ty v → bit v (ty.width - 1) ≡ int_lt v (pos 0)
+bit_of_sign ty v e h = go v (bound ty.signed e h.from) (top ty.signed e h.to)
+  where
+    bound : (s : Bool) → s ≡ true → cond s (neg_ℤ (pos (2 ^ (ty.width - 1)))) (pos 0) ≤ℤ v → neg_ℤ (pos (2 ^ (ty.width - 1))) ≤ℤ v
+    bound true s l = l
+    bound false s l = cc
+
+    top : (s : Bool) → s ≡ true → v ≤ℤ cond s (pos (2 ^ (ty.width - 1) - 1)) (pos (2 ^ ty.width - 1)) → v ≤ℤ pos (2 ^ (ty.width - 1) - 1)
+    top true s l = l
+    top false s l = cc
+
+    int_lt_pos : (a : ℕ) → int_lt (pos a) (pos 0) ≡ false
+    int_lt_pos a = grind (arith, ints)
+
+    go : (v : ℤ) → neg_ℤ (pos (2 ^ (ty.width - 1))) ≤ℤ v → v ≤ℤ pos (2 ^ (ty.width - 1) - 1) → bit v (ty.width - 1) ≡ int_lt v (pos 0)
+    go (pos a) from to = let z = bit_at_above a (ty.width - 1) (ty.width - 1) (omega (arith, ints, pow_pos (ty.width - 1))) (le_refl (ty.width - 1)) in rw z (sym (int_lt_pos a))
+    go (negsuc a) from to = let z = bit_at_above a (ty.width - 1) (ty.width - 1) (omega (arith, ints, pow_pos (ty.width - 1))) (le_refl (ty.width - 1)) in rw z refl

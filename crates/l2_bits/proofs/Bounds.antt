@@ -1,21 +1,18 @@
 -- How far the values of a type reach, and what follows for the exact results.
-use Rattle.std.proofs.Common.{◌≡◌, ◌≢◌, ℕ, zero, suc, ◌+◌, ◌-◌, ◌*◌, ◌/◌, ◌%◌, ◌^◌, ◌<◌, ◌≤◌, ◌⊎◌, ◌==◌, ◌||◌, not, cond, ℤ, pos, negsuc, neg_ℤ, ◌+ℤ◌, ◌-ℤ◌, ◌*ℤ◌, ◌≤ℤ◌, ◌<ℤ◌, unsigned_abs, int_div, int_rem, int_le, Bool, true, false, FitsSigned, arith, subst}
+use Rattle.std.proofs.Common.{◌≡◌, ℕ, suc, ◌-◌, ◌/◌, ◌%◌, ◌^◌, ◌<◌, ◌≤◌, not, cond, ℤ, pos, negsuc, neg_ℤ, ◌+ℤ◌, ◌-ℤ◌, ◌*ℤ◌, ◌≤ℤ◌, unsigned_abs, int_div, int_rem, int_le, Bool, true, false, FitsSigned, arith, subst}
 use Rattle.std.specs.Int.{w128}
 use Rattle.std.specs.Ordering.{int_eq}
-use Rattle.std.proofs.lemmas.Int.{ints, quot-rem, fits_signed_mul, to_z-of_z, rem_is}
-use Rattle.std.proofs.lemmas.Bool.{and_parts, or_parts, or_cases, not-false, eqb-true}
+use Rattle.std.proofs.lemmas.Int.{ints, quot-rem, fits_signed_mul}
+use Rattle.std.proofs.lemmas.Bool.{and_parts, or_parts, not-false}
 use Rattle.std.proofs.lemmas.Nat.{pow_pos}
 use Rattle.std.proofs.Math.Nat.{pow-le-pow_right, mod-le, div-le_self}
 use lib.IntN.{*ℤ_comm}
 use Rattle.l2_bits.specs.declared.types.Ty.{Ty}
-use Rattle.l2_bits.specs.Widths.{is_type}
+use Rattle.l2_bits.proofs.TypeLaws.{width_at_most}
 use Rattle.l2_bits.specs.Values.{least, greatest, IsValue, is_value}
 use Rattle.l2_bits.specs.Operators.{quotient, remainder, breaks_division, floor_div, IsRightOperand}
 use Rattle.l2_bits.specs.declared.operators.Op.{Op}
 use Rattle.l2_bits.specs.declared.operators.Op.TheVariants.{Mul}
-
-width_at_most : (w : ℕ) (s : Bool) → is_type w s ≡ true → w ≤ 64
-width_at_most w s h = grind arith
 
 two_pos : 0 < 2
 two_pos = omega arith
@@ -30,14 +27,14 @@ pub value_small : (ty : Ty) (v : ℤ) → IsValue ty v → unsigned_abs v < 2 ^ 
 value_small ty v h = go ty.signed h.from h.to
   where
     go : (s : Bool) → cond s (neg_ℤ (pos (2 ^ (ty.width - 1)))) (pos 0) ≤ℤ v → v ≤ℤ cond s (pos (2 ^ (ty.width - 1) - 1)) (pos (2 ^ ty.width - 1)) → unsigned_abs v < 2 ^ 64
-    go true from to = let l = half_at_most ty.width (width_at_most ty.width ty.signed ty.lawful) in omega (arith, ints)
-    go false from to = let l = power_at_most ty.width (width_at_most ty.width ty.signed ty.lawful) in omega (arith, ints, pow_pos ty.width)
+    go true from to = let l = half_at_most ty.width (width_at_most ty) in omega (arith, ints)
+    go false from to = let l = power_at_most ty.width (width_at_most ty) in omega (arith, ints, pow_pos ty.width)
 
 pub signed_small : (ty : Ty) (v : ℤ) → ty.signed ≡ true → IsValue ty v → unsigned_abs v ≤ 2 ^ 63
 signed_small ty v e h = go ty.signed e h.from h.to
   where
     go : (s : Bool) → s ≡ true → cond s (neg_ℤ (pos (2 ^ (ty.width - 1)))) (pos 0) ≤ℤ v → v ≤ℤ cond s (pos (2 ^ (ty.width - 1) - 1)) (pos (2 ^ ty.width - 1)) → unsigned_abs v ≤ 2 ^ 63
-    go true signed from to = let l = half_at_most ty.width (width_at_most ty.width ty.signed ty.lawful) in omega (arith, ints)
+    go true signed from to = let l = half_at_most ty.width (width_at_most ty) in omega (arith, ints)
     go false signed from to = cc
 
 pub value_from_test : (ty : Ty) (v : ℤ) → is_value ty v ≡ true → IsValue ty v

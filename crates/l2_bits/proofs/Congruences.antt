@@ -1,5 +1,5 @@
 -- Congruence modulo n: it is an equivalence that sums and products keep.
-use Rattle.std.proofs.Common.{◌≡◌, ℕ, suc, zero, ◌+◌, ◌-◌, ◌*◌, ◌%◌, ◌/◌, ◌<◌, ◌≤◌, ℤ, pos, negsuc, neg_ℤ, ◌+ℤ◌, ◌-ℤ◌, ◌*ℤ◌, ◌<ℤ◌, ◌⊎◌, refl, ap, sym, arith, inl, inr, ⊎_elim}
+use Rattle.std.proofs.Common.{◌≡◌, ℕ, suc, zero, ◌+◌, ◌-◌, ◌*◌, ◌<◌, ◌≤◌, ℤ, pos, negsuc, neg_ℤ, ◌+ℤ◌, ◌-ℤ◌, ◌*ℤ◌, ◌<ℤ◌, ◌⊎◌, refl, ap, sym, arith, inl, inr, ⊎_elim}
 use Rattle.std.proofs.lemmas.Int.{ints}
 use Rattle.std.proofs.lemmas.Bool.{cases_lt}
 use borrow.Author.Differences.{up, down, same_in, same_out, sum_is_lem, product_is}
@@ -70,3 +70,10 @@ meet_times n u v c m =
     let above = ap (λ x. x * up c) sum in
     let below = ap (λ x. x * down c) sum in
     record { up_by = m.up_by * up c + m.down_by * down c; down_by = m.down_by * up c + m.up_by * down c; same = omega (arith, same_in, sum_is_lem, product_is) }
+
+pub meet_add : (n : ℕ) (a b c d : ℤ) → Meet n a c → Meet n b d → Meet n (a +ℤ b) (c +ℤ d)
+meet_add n a b c d p q = record { up_by = p.up_by + q.up_by; down_by = p.down_by + q.down_by; same = omega (arith, ints, p.same, q.same) }
+
+-- the difference by the complement of the second residue
+pub meet_sub : (n r s : ℕ) (a b : ℤ) → s < n → Meet n (pos r) a → Meet n (pos s) b → Meet n (pos (r + (n - s))) (a -ℤ b)
+meet_sub n r s a b h p q = record { up_by = p.up_by + q.down_by; down_by = p.down_by + q.up_by + 1; same = omega (arith, ints, p.same, q.same) }

@@ -4,4 +4,6 @@ pub mod Congruences
 pub mod OperatorValues
 pub mod Products
 pub mod Quotients
+pub mod Residues
+pub mod TypeLaws
 pub mod Wraps

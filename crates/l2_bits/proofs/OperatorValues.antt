@@ -1,12 +1,12 @@
 -- The answer of each operator is a value of its type.
-use Rattle.std.proofs.Common.{◌≡◌, ℕ, ◌-◌, ◌^◌, ◌<◌, ◌≤◌, Bool, true, false, cond, ◌||◌, not, ◌==◌, ℤ, pos, negsuc, neg_ℤ, ◌≤ℤ◌, unsigned_abs, int_lt, int_le, Option, Some, None, IfSome, refl, ap, subst, arith}
+use Rattle.std.proofs.Common.{◌≡◌, ℕ, ◌-◌, ◌^◌, ◌≤◌, Bool, true, false, cond, ◌==◌, ℤ, pos, neg_ℤ, ◌≤ℤ◌, unsigned_abs, Some, None, IfSome, refl, ap, subst, arith}
 use Rattle.std.specs.Ordering.{int_eq}
 use Rattle.std.proofs.lemmas.Int.{ints}
 use Rattle.std.proofs.lemmas.Bool.{eqb-true}
-use Rattle.l2_bits.specs.Widths.{is_type}
+use Rattle.l2_bits.proofs.TypeLaws.{no_sign}
 use Rattle.l2_bits.specs.declared.types.Ty.{Ty}
 use Rattle.l2_bits.specs.Values.{IsValue, wrap}
-use Rattle.l2_bits.specs.Operators.{quotient, remainder, breaks_division, div, rem, floor_div, shifted_left, shifted_right, breaks_shift, shl, shr, convert}
+use Rattle.l2_bits.specs.Operators.{quotient, remainder, breaks_division, div, rem, shifted_left, shifted_right, breaks_shift, shl, shr, convert}
 use Rattle.l2_bits.proofs.Wraps.{wrap_value}
 use Rattle.l2_bits.proofs.Bounds.{quotient_value, remainder-is, remainder_value, floor_value}
 
@@ -42,11 +42,8 @@ one_bit : (s : Bool) (w r : ℕ) → w ≡ 1 → s ≡ false → r ≤ 1 → (co
 one_bit true w r e f h = cc
 one_bit false w r e f h = let p : 2 ^ w ≡ 2 = ap (λ x. 2 ^ x) e in (omega (arith, ints), omega (arith, ints))
 
-no_sign : (w : ℕ) (s : Bool) → is_type w s ≡ true → w ≡ 1 → s ≡ false
-no_sign w s h e = grind arith
-
 truth_value : (to : Ty) (r : ℕ) → to.width ≡ 1 → r ≤ 1 → IsValue to (pos r)
-truth_value to r e h = let p = one_bit to.signed to.width r e (no_sign to.width to.signed to.lawful e) h in record { from = p.0; to = p.1 }
+truth_value to r e h = let p = one_bit to.signed to.width r e (no_sign to e) h in record { from = p.0; to = p.1 }
 
 pub convert_value : (to : Ty) (v : ℤ) → IsValue to (convert to v)
 convert_value to v = go (to.width == 1) refl

@@ -1,5 +1,5 @@
 -- The product of residues wraps to the exact product.
-use Rattle.std.proofs.Common.{◌≡◌, ℕ, ◌*◌, ◌%◌, ◌<◌, ℤ, pos, ◌*ℤ◌, sym, subst}
+use Rattle.std.proofs.Common.{◌≡◌, ℕ, ◌*◌, ◌%◌, ◌<◌, ℤ, pos, ◌*ℤ◌, subst}
 use Rattle.std.proofs.lemmas.Nat.{pow_pos}
 use lib.IntN.{*ℤ_comm}
 use Rattle.l2_bits.specs.declared.types.Ty.{Ty}

@@ -1,6 +1,6 @@
 -- Quotients that truncate towards zero, and those that round down.
-use Rattle.std.proofs.Common.{◌≡◌, ◌≢◌, ℕ, zero, suc, ◌+◌, ◌*◌, ◌/◌, ◌%◌, ◌<◌, ◌≤◌, ℤ, pos, negsuc, neg_ℤ, ◌+ℤ◌, ◌-ℤ◌, ◌*ℤ◌, ◌≤ℤ◌, ◌<ℤ◌, unsigned_abs, int_div, int_rem, arith, refl, subst, ap, sym}
-use Rattle.std.proofs.lemmas.Int.{ints, quot-rem, rem_below}
+use Rattle.std.proofs.Common.{◌≡◌, ◌≢◌, ℕ, zero, suc, ◌<◌, ℤ, pos, negsuc, ◌+ℤ◌, ◌-ℤ◌, ◌*ℤ◌, ◌≤ℤ◌, ◌<ℤ◌, unsigned_abs, int_div, int_rem, arith, refl, subst}
+use Rattle.std.proofs.lemmas.Int.{ints, rem_below}
 use Rattle.std.proofs.lemmas.Nat.{div-add-mod'}
 use Rattle.std.proofs.Math.Nat.{mod-le, mod-lt}
 use Rattle.l2_bits.specs.Operators.{quotient, remainder, floor_div}

@@ -1,12 +1,12 @@
 -- What `wrap` gives: the one value of the type that is congruent to a number.
-use Rattle.std.proofs.Common.{◌≡◌, ℕ, suc, zero, ◌+◌, ◌-◌, ◌*◌, ◌%◌, ◌/◌, ◌^◌, ◌<◌, ◌≤◌, ℤ, pos, negsuc, neg_ℤ, ◌+ℤ◌, ◌-ℤ◌, ◌*ℤ◌, ◌<ℤ◌, ◌≤ℤ◌, Bool, true, false, cond, nat_lt, refl, ap, sym, ◌∙◌, arith}
+use Rattle.std.proofs.Common.{◌≡◌, ℕ, suc, zero, ◌+◌, ◌-◌, ◌/◌, ◌^◌, ◌<◌, ℤ, pos, negsuc, neg_ℤ, ◌+ℤ◌, ◌<ℤ◌, ◌≤ℤ◌, Bool, true, false, cond, nat_lt, refl, arith}
 use Rattle.std.proofs.lemmas.Int.{ints}
 use Rattle.std.proofs.lemmas.Bool.{ltb-true, ltb-false}
 use Rattle.std.proofs.lemmas.Nat.{pow_pos, div-add-mod'}
-use Rattle.std.proofs.Math.Nat.{mod-lt, mod-eq_of_lt, pow-suc}
+use Rattle.std.proofs.Math.Nat.{mod-lt, pow-suc}
 use Rattle.l2_bits.specs.declared.types.Ty.{Ty}
-use Rattle.l2_bits.specs.Widths.{is_type}
-use Rattle.l2_bits.specs.Values.{modulus, least, greatest, IsValue, IsCongruent, IsWrapOf, residue, signed_of, wrap_at, wrap}
+use Rattle.l2_bits.specs.Values.{modulus, IsValue, IsWrapOf, residue, signed_of, wrap_at, wrap}
+use Rattle.l2_bits.proofs.TypeLaws.{width_pos}
 use Rattle.l2_bits.proofs.Congruences.{Meet, meet_of, congruent_of, near_same, meet_refl, meet_sym, meet_trans}
 
 pub residue-lt : (n : ℕ) (v : ℤ) → 0 < n → residue n v < n
@@ -56,10 +56,6 @@ spread : (s : Bool) (w : ℕ) (u v : ℤ) → 0 < w → InRange s w u → InRang
 spread true w u v h p q = let d = halves w h in omega (arith, ints, p.to, q.from, pow_pos (w - 1))
 spread false w u v h p q = omega (arith, ints, p.to, q.from, pow_pos w)
 
-width_pos : (w : ℕ) (s : Bool) → is_type w s ≡ true → 0 < w
-width_pos zero s h = cc
-width_pos (suc w) s h = omega arith
-
 range_of : (ty : Ty) (v : ℤ) → IsValue ty v → InRange ty.signed ty.width v
 range_of ty v h = record { from = h.from; to = h.to }
 
@@ -68,7 +64,7 @@ value_of ty v h = record { from = h.from; to = h.to }
 
 pub wrap_value : (ty : Ty) (v : ℤ) → IsValue ty (wrap ty v)
 unfolding wrap
-wrap_value ty v = value_of ty (wrap ty v) (wrap_at-range ty.signed ty.width v (width_pos ty.width ty.signed ty.lawful))
+wrap_value ty v = value_of ty (wrap ty v) (wrap_at-range ty.signed ty.width v (width_pos ty))
 
 pub wrap-meet : (ty : Ty) (v : ℤ) → Meet (modulus ty) (wrap ty v) v
 unfolding wrap
@@ -77,7 +73,7 @@ wrap-meet ty v = wrap_at-meet ty.signed (modulus ty) v (pow_pos ty.width)
 -- congruent values are one
 pub values_same : (ty : Ty) (u v : ℤ) → IsValue ty u → IsValue ty v → Meet (modulus ty) u v → u ≡ v
 values_same ty u v p q m =
-    let some = width_pos ty.width ty.signed ty.lawful in
+    let some = width_pos ty in
     near_same (modulus ty) u v m (spread ty.signed ty.width u v some (range_of ty u p) (range_of ty v q)) (spread ty.signed ty.width v u some (range_of ty v q) (range_of ty u p))
 
 -- ---- the laws that crates above cite

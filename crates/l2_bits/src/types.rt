@@ -1,5 +1,5 @@
-ghost use Rattle.std.specs.Prelude.{◌≡◌, IsTrue};
-ghost use Rattle.l2_bits.specs.Widths.{is_type};
+ghost use Rattle.std.specs.Prelude.{◌≡◌};
+ghost use Rattle.l2_bits.specs.Widths.{IsType};
 
 /// An integer type of C by its width in bits, that of the sign included, and whether it has a sign.
 /// `_Bool` has 1 bit; the others have 8, 16, 32 or 64.
@@ -7,7 +7,7 @@ ghost use Rattle.l2_bits.specs.Widths.{is_type};
 pub struct Ty {
     pub width: u8,
     pub signed: bool,
-    pub ghost lawful: { IsTrue (is_type width signed) },
+    pub ghost lawful: { IsType width signed },
 }
 
 impl Ty {
@@ -60,7 +60,7 @@ impl Ty {
     };
 
     pub fn new(width: u8, signed: bool) -> Ty
-        requires { IsTrue (is_type width signed) }
+        requires { IsType width signed }
         ensures width { result.width ≡ width }
         ensures signed { result.signed ≡ signed }
     {

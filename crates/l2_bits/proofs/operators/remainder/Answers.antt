@@ -1,4 +1,4 @@
-use Rattle.std.proofs.Common.{FitsSigned, rules, sym, ◌∙◌}
+use Rattle.std.proofs.Common.{◌∙◌}
 use Rattle.std.specs.Int.{w128}
 use Rattle.std.proofs.lemmas.Int.{rem_is}
 use Rattle.l2_bits.proofs.Bounds.{remainder-is, remainder_value}

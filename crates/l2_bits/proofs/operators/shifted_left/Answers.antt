@@ -1,7 +1,6 @@
-use Rattle.std.proofs.Common.{◌≡◌, FitsSigned, rules, pos, refl, to_z, of_z, ◌*ℤ◌, ◌^◌, unsigned_abs, arith}
+use Rattle.std.proofs.Common.{◌≡◌, FitsSigned, rules, pos, refl, to_z, of_z, ◌*ℤ◌, arith}
 use Rattle.std.specs.Int.{w128}
 use Rattle.std.proofs.lemmas.Int.{ints, to_z-of_z}
-use Rattle.l2_bits.specs.Operators.{shifted_left}
 use Rattle.l2_bits.proofs.Bounds.{shifted_fits}
 use Rattle.l2_bits.proofs.operators.shifted_left.Goals as goal
 
