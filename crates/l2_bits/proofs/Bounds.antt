@@ -42,6 +42,7 @@ value_from_test ty v h = let p = and_parts (int_le (least ty) v) (int_le v (grea
 
 -- where no check breaks the quotient is a value
 pub quotient_value : (ty : Ty) (a b : ℤ) → breaks_division ty a b ≡ false → IsValue ty (quotient a b)
+unfolding breaks_division
 quotient_value ty a b h = let p = or_parts (int_eq b (pos 0)) (not (is_value ty (quotient a b))) h in value_from_test ty (quotient a b) (not-false (is_value ty (quotient a b)) p.1)
 
 pub remainder-is : (a b : ℤ) → int_rem a b ≡ remainder a b

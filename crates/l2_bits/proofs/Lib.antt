@@ -1,5 +1,6 @@
 pub mod BitLaws
 pub mod Bounds
+pub mod Checks
 pub mod Congruences
 pub mod OperatorValues
 pub mod Products

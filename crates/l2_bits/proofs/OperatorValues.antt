@@ -11,6 +11,7 @@ use Rattle.l2_bits.proofs.Wraps.{wrap_value}
 use Rattle.l2_bits.proofs.Bounds.{quotient_value, remainder-is, remainder_value, floor_value}
 
 pub div_value : (ty : Ty) (a b : ℤ) → IfSome (div ty a b) (IsValue ty)
+unfolding div
 div_value ty a b = go (breaks_division ty a b) (quotient_value ty a b)
   where
     go : (t : Bool) → (t ≡ false → IsValue ty (quotient a b)) → IfSome (cond t None (Some (quotient a b))) (IsValue ty)
@@ -18,6 +19,7 @@ div_value ty a b = go (breaks_division ty a b) (quotient_value ty a b)
     go false f = f refl
 
 pub rem_value : (ty : Ty) (a b : ℤ) → IsValue ty a → IfSome (rem ty a b) (IsValue ty)
+unfolding rem
 rem_value ty a b h = go (breaks_division ty a b)
   where
     go : (t : Bool) → IfSome (cond t None (Some (remainder a b))) (IsValue ty)
@@ -25,6 +27,7 @@ rem_value ty a b h = go (breaks_division ty a b)
     go false = subst (λ r. IsValue ty r) (remainder-is a b) (remainder_value ty a b h)
 
 pub shl_value : (ty : Ty) (a n : ℤ) → IfSome (shl ty a n) (IsValue ty)
+unfolding shl
 shl_value ty a n = go (breaks_shift ty n)
   where
     go : (t : Bool) → IfSome (cond t None (Some (wrap ty (shifted_left a n)))) (IsValue ty)
@@ -32,6 +35,7 @@ shl_value ty a n = go (breaks_shift ty n)
     go false = wrap_value ty (shifted_left a n)
 
 pub shr_value : (ty : Ty) (a n : ℤ) → IsValue ty a → IfSome (shr ty a n) (IsValue ty)
+unfolding shr
 shr_value ty a n h = go (breaks_shift ty n)
   where
     go : (t : Bool) → IfSome (cond t None (Some (shifted_right a n))) (IsValue ty)
@@ -46,6 +50,7 @@ truth_value : (to : Ty) (r : ℕ) → to.width ≡ 1 → r ≤ 1 → IsValue to 
 truth_value to r e h = let p = one_bit to.signed to.width r e (no_sign to e) h in record { from = p.0; to = p.1 }
 
 pub convert_value : (to : Ty) (v : ℤ) → IsValue to (convert to v)
+unfolding convert
 convert_value to v = go (to.width == 1) refl
   where
     go : (t : Bool) → (to.width == 1) ≡ t → IsValue to (cond t (cond (int_eq v (pos 0)) (pos 0) (pos 1)) (wrap to v))

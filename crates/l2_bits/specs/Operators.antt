@@ -25,13 +25,13 @@ abbrev pub remainder : ℤ → ℤ → ℤ
 remainder a b = a -ℤ b *ℤ quotient a b
 
 -- the divisor is 0, or the quotient isn't a value of the type
-abbrev pub breaks_division : Ty → ℤ → ℤ → Bool
+unfoldable pub breaks_division : Ty → ℤ → ℤ → Bool
 breaks_division ty a b = int_eq b (pos 0) || not (is_value ty (quotient a b))
 
-abbrev pub div : Ty → ℤ → ℤ → Option ℤ
+unfoldable pub div : Ty → ℤ → ℤ → Option ℤ
 div ty a b = if breaks_division ty a b then None else Some (quotient a b)
 
-abbrev pub rem : Ty → ℤ → ℤ → Option ℤ
+unfoldable pub rem : Ty → ℤ → ℤ → Option ℤ
 rem ty a b = if breaks_division ty a b then None else Some (remainder a b)
 
 -- ---- shifts
@@ -50,13 +50,13 @@ abbrev pub shifted_right : ℤ → ℤ → ℤ
 shifted_right a n = floor_div a (2 ^ unsigned_abs n)
 
 -- the amount is negative or at least the width
-abbrev pub breaks_shift : Ty → ℤ → Bool
+unfoldable pub breaks_shift : Ty → ℤ → Bool
 breaks_shift ty n = int_lt n (pos 0) || not (int_lt n (pos ty.width))
 
-abbrev pub shl : Ty → ℤ → ℤ → Option ℤ
+unfoldable pub shl : Ty → ℤ → ℤ → Option ℤ
 shl ty a n = if breaks_shift ty n then None else Some (wrap ty (shifted_left a n))
 
-abbrev pub shr : Ty → ℤ → ℤ → Option ℤ
+unfoldable pub shr : Ty → ℤ → ℤ → Option ℤ
 shr ty a n = if breaks_shift ty n then None else Some (shifted_right a n)
 
 -- ---- overflow
@@ -73,7 +73,7 @@ shifts_negative Shl a = int_lt a (pos 0)
 shifts_negative _ a = false
 
 -- the type has a sign, and the exact result isn't a value of it or the left operand of a shift is negative
-abbrev pub overflows : Op → Ty → ℤ → ℤ → Bool
+unfoldable pub overflows : Op → Ty → ℤ → ℤ → Bool
 overflows op ty a b = ty.signed && (not (is_value ty (exact op a b)) || shifts_negative op a)
 
 -- b may be the right operand: the amount of a shift that breaks no check, or a value of the type
@@ -84,5 +84,5 @@ IsRightOperand _ ty b = IsValue ty b
 -- ---- conversion
 
 -- to `_Bool` 1 for each number but 0, else what v wraps to
-abbrev pub convert : Ty → ℤ → ℤ
+unfoldable pub convert : Ty → ℤ → ℤ
 convert to v = if to.width == 1 then (if int_eq v (pos 0) then pos 0 else pos 1) else wrap to v

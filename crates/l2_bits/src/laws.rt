@@ -1,9 +1,9 @@
 //! What holds of the definitions for every type: functions without effect whose contracts are the laws.
-ghost use Rattle.std.specs.Prelude.{◌≡◌, ◌≢◌, ℕ, ◌<◌, ℤ, pos, ◌+ℤ◌, ◌*ℤ◌, ◌≤ℤ◌, ◌<ℤ◌, unsigned_abs};
+ghost use Rattle.std.specs.Prelude.{◌≡◌, ◌≢◌, ℕ, ◌<◌, ℤ, pos, ◌+ℤ◌, ◌*ℤ◌, ◌≤ℤ◌, ◌<ℤ◌, ◌⊎◌, ◌↔◌, true, unsigned_abs};
 ghost use Rattle.l2_bits.specs.declared.types.Ty.{Ty};
 ghost use Rattle.l2_bits.specs.Values.{IsValue, IsWrapOf, wrap};
 ghost use Rattle.l2_bits.specs.Bits.{bit};
-ghost use Rattle.l2_bits.specs.Operators.{quotient, remainder, floor_div};
+ghost use Rattle.l2_bits.specs.Operators.{quotient, remainder, breaks_division, breaks_shift, floor_div};
 
 /// A whole number is congruent modulo 2^width to exactly one value of a type, which `wrap` names.
 pub fn wrap_is_the_only_value()
@@ -28,4 +28,11 @@ pub fn quotient_truncates()
 pub fn floor_rounds_down()
     ensures at_most { (a : ℤ) (n : ℕ) → 0 < n → (floor_div a n *ℤ pos n) ≤ℤ a }
     ensures next { (a : ℤ) (n : ℕ) → 0 < n → a <ℤ ((floor_div a n *ℤ pos n) +ℤ pos n) }
+{}
+
+/// When an operator has no answer: division by 0 or with a quotient that is no value of the type, and a shift by a
+/// negative amount or by at least the width.
+pub fn checks_break()
+    ensures division { (ty : Ty) (a b : ℤ) → (breaks_division ty a b ≡ true) ↔ ((b ≡ pos 0) ⊎ (¬ IsValue ty (quotient a b))) }
+    ensures shift { (ty : Ty) (n : ℤ) → (breaks_shift ty n ≡ true) ↔ ((n <ℤ pos 0) ⊎ (pos ty.width ≤ℤ n)) }
 {}

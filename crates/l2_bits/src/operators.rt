@@ -48,6 +48,7 @@ fn quotient(ty: Ty, a: i128, b: i128) -> i128
 }
 
 /// Whether the divisor is 0 or the quotient isn't a value of the type.
+#[tactic(auto, unfolding(crate::specs::Operators::breaks_division))]
 fn breaks_division(ty: Ty, a: i128, b: i128) -> bool
     requires left { IsValue ty a }
     requires right { IsValue ty b }
@@ -57,6 +58,7 @@ fn breaks_division(ty: Ty, a: i128, b: i128) -> bool
 }
 
 /// `a / b` (C11 6.5.5): `None` where the divisor is 0 or the quotient isn't a value of the type.
+#[tactic(auto, unfolding(crate::specs::Operators::div, crate::specs::Operators::breaks_division))]
 pub fn div(ty: Ty, a: i128, b: i128) -> Option<i128>
     requires left { IsValue ty a }
     requires right { IsValue ty b }
@@ -82,6 +84,7 @@ fn remainder(ty: Ty, a: i128, b: i128) -> i128
 }
 
 /// `a % b` (C11 6.5.5): `None` where `div` is.
+#[tactic(auto, unfolding(crate::specs::Operators::rem, crate::specs::Operators::breaks_division))]
 pub fn rem(ty: Ty, a: i128, b: i128) -> Option<i128>
     requires left { IsValue ty a }
     requires right { IsValue ty b }
@@ -96,6 +99,7 @@ pub fn rem(ty: Ty, a: i128, b: i128) -> Option<i128>
 }
 
 /// Whether the amount is negative or at least the width.
+#[tactic(auto, unfolding(crate::specs::Operators::breaks_shift))]
 fn breaks_shift(ty: Ty, n: i128) -> bool
     ensures { result ≡ breaks_shift ty n }
 {
@@ -123,6 +127,7 @@ fn shifted_left(ty: Ty, a: i128, n: i128) -> i128
 }
 
 /// `a << n` (C11 6.5.7), wrapped: `None` where the amount is negative or at least the width.
+#[tactic(auto, unfolding(crate::specs::Operators::shl, crate::specs::Operators::breaks_shift))]
 pub fn shl(ty: Ty, a: i128, n: i128) -> Option<i128>
     requires { IsValue ty a }
     ensures is { result ≡ shl ty a n }
@@ -136,6 +141,7 @@ pub fn shl(ty: Ty, a: i128, n: i128) -> Option<i128>
 }
 
 /// `a >> n` (C11 6.5.7), rounded down: `None` where the amount is negative or at least the width.
+#[tactic(auto, unfolding(crate::specs::Operators::shr, crate::specs::Operators::breaks_shift))]
 pub fn shr(ty: Ty, a: i128, n: i128) -> Option<i128>
     requires { IsValue ty a }
     ensures is { result ≡ shr ty a n }
@@ -184,6 +190,7 @@ fn shifts_negative(op: Op, a: i128) -> bool
 
 /// Whether the exact result of an operator on a type with a sign isn't a value of it, or the left operand of such a
 /// `<<` is negative (C11 6.5p5, 6.5.7p4). A type without a sign never overflows.
+#[tactic(auto, unfolding(crate::specs::Operators::overflows))]
 pub fn overflows(op: Op, ty: Ty, a: i128, b: i128) -> bool
     requires left { IsValue ty a }
     requires right { IsRightOperand op ty b }
@@ -193,6 +200,7 @@ pub fn overflows(op: Op, ty: Ty, a: i128, b: i128) -> bool
 }
 
 /// What a number becomes in the type (C11 6.3.1.2, 6.3.1.3): in `_Bool` 1 for each number but 0, else wrapped.
+#[tactic(auto, unfolding(crate::specs::Operators::convert))]
 pub fn convert(to: Ty, v: i128) -> i128
     ensures is { result ≡ convert to v }
     ensures value { IsValue to result }

@@ -9,6 +9,9 @@ use std::process::Abort;
 #[derive(Copy, Clone)]
 struct Case(Ty, i128, i128, [i128; 6], [Option<i128>; 4], [bool; 4]);
 
+/// Past the ends of every type.
+const FAR: i128 = 1_000_000_000_000_000_000_000;
+
 /// A type, its least and its greatest value.
 #[derive(Copy, Clone)]
 struct Ends(Ty, i128, i128);
@@ -43,7 +46,7 @@ fn check_case(rt: &impl Abort, case: Case) {
 fn check_ends(rt: &impl Abort, ends: Ends) {
     let Ends(ty, least, greatest) = ends;
     assert_eq!(rt; ty, Ty::new(ty.width, ty.signed));
-    if least < -1_000_000_000_000_000_000_000 || 1_000_000_000_000_000_000_000 < greatest {
+    if least < -FAR || FAR < greatest {
         panic!(rt; "no ends");
     }
     let inside = [
@@ -90,15 +93,7 @@ fn operators_at_both_ends_of_each_type(rt: HostRuntime) {
     }
 }
 
-const CASES: [Case; 36] = [
-    Case(
-        Ty::BOOL,
-        0,
-        1,
-        [1, 1, 0, 0, 1, 1],
-        [Some(0), Some(0), None, None],
-        [false, false, false, false],
-    ),
+const CASES: [Case; 24] = [
     Case(
         Ty::BOOL,
         1,
@@ -108,28 +103,12 @@ const CASES: [Case; 36] = [
         [false, false, false, false],
     ),
     Case(
-        Ty::CHAR,
-        -128,
-        127,
-        [-1, 1, -128, 0, -1, -1],
-        [Some(-1), Some(-1), None, None],
-        [false, true, true, false],
-    ),
-    Case(
-        Ty::CHAR,
-        127,
-        127,
-        [-2, 0, 1, 127, 127, 0],
-        [Some(1), Some(0), None, None],
-        [true, false, true, false],
-    ),
-    Case(
-        Ty::CHAR,
-        -128,
-        -128,
-        [0, 0, 0, -128, -128, 0],
-        [Some(1), Some(0), None, None],
-        [true, false, true, false],
+        Ty::BOOL,
+        0,
+        1,
+        [1, 1, 0, 0, 1, 1],
+        [Some(0), Some(0), None, None],
+        [false, false, false, false],
     ),
     Case(
         Ty::CHAR,
@@ -140,12 +119,12 @@ const CASES: [Case; 36] = [
         [true, false, true, false],
     ),
     Case(
-        Ty::UCHAR,
-        0,
-        255,
-        [255, 1, 0, 0, 255, 255],
-        [Some(0), Some(0), None, None],
-        [false, false, false, false],
+        Ty::CHAR,
+        -128,
+        127,
+        [-1, 1, -128, 0, -1, -1],
+        [Some(-1), Some(-1), None, None],
+        [false, true, true, false],
     ),
     Case(
         Ty::UCHAR,
@@ -156,28 +135,12 @@ const CASES: [Case; 36] = [
         [false, false, false, false],
     ),
     Case(
-        Ty::SHORT,
-        -32768,
-        32767,
-        [-1, 1, -32768, 0, -1, -1],
-        [Some(-1), Some(-1), None, None],
-        [false, true, true, false],
-    ),
-    Case(
-        Ty::SHORT,
-        32767,
-        32767,
-        [-2, 0, 1, 32767, 32767, 0],
-        [Some(1), Some(0), None, None],
-        [true, false, true, false],
-    ),
-    Case(
-        Ty::SHORT,
-        -32768,
-        -32768,
-        [0, 0, 0, -32768, -32768, 0],
-        [Some(1), Some(0), None, None],
-        [true, false, true, false],
+        Ty::UCHAR,
+        0,
+        255,
+        [255, 1, 0, 0, 255, 255],
+        [Some(0), Some(0), None, None],
+        [false, false, false, false],
     ),
     Case(
         Ty::SHORT,
@@ -189,43 +152,11 @@ const CASES: [Case; 36] = [
     ),
     Case(
         Ty::USHORT,
-        0,
-        65535,
-        [65535, 1, 0, 0, 65535, 65535],
-        [Some(0), Some(0), None, None],
-        [false, false, false, false],
-    ),
-    Case(
-        Ty::USHORT,
         65535,
         65535,
         [65534, 0, 1, 65535, 65535, 0],
         [Some(1), Some(0), None, None],
         [false, false, false, false],
-    ),
-    Case(
-        Ty::INT,
-        -2147483648,
-        2147483647,
-        [-1, 1, -2147483648, 0, -1, -1],
-        [Some(-1), Some(-1), None, None],
-        [false, true, true, false],
-    ),
-    Case(
-        Ty::INT,
-        2147483647,
-        2147483647,
-        [-2, 0, 1, 2147483647, 2147483647, 0],
-        [Some(1), Some(0), None, None],
-        [true, false, true, false],
-    ),
-    Case(
-        Ty::INT,
-        -2147483648,
-        -2147483648,
-        [0, 0, 0, -2147483648, -2147483648, 0],
-        [Some(1), Some(0), None, None],
-        [true, false, true, false],
     ),
     Case(
         Ty::INT,
@@ -243,12 +174,12 @@ const CASES: [Case; 36] = [
         [true, false, true, false],
     ),
     Case(
-        Ty::UINT,
-        0,
-        4294967295,
-        [4294967295, 1, 0, 0, 4294967295, 4294967295],
-        [Some(0), Some(0), None, None],
-        [false, false, false, false],
+        Ty::INT,
+        -2147483648,
+        2147483647,
+        [-1, 1, -2147483648, 0, -1, -1],
+        [Some(-1), Some(-1), None, None],
+        [false, true, true, false],
     ),
     Case(
         Ty::UINT,
@@ -259,28 +190,12 @@ const CASES: [Case; 36] = [
         [false, false, false, false],
     ),
     Case(
-        Ty::LONG,
-        -9223372036854775808,
-        9223372036854775807,
-        [-1, 1, -9223372036854775808, 0, -1, -1],
-        [Some(-1), Some(-1), None, None],
-        [false, true, true, false],
-    ),
-    Case(
-        Ty::LONG,
-        9223372036854775807,
-        9223372036854775807,
-        [-2, 0, 1, 9223372036854775807, 9223372036854775807, 0],
-        [Some(1), Some(0), None, None],
-        [true, false, true, false],
-    ),
-    Case(
-        Ty::LONG,
-        -9223372036854775808,
-        -9223372036854775808,
-        [0, 0, 0, -9223372036854775808, -9223372036854775808, 0],
-        [Some(1), Some(0), None, None],
-        [true, false, true, false],
+        Ty::UINT,
+        0,
+        4294967295,
+        [4294967295, 1, 0, 0, 4294967295, 4294967295],
+        [Some(0), Some(0), None, None],
+        [false, false, false, false],
     ),
     Case(
         Ty::LONG,
@@ -298,19 +213,12 @@ const CASES: [Case; 36] = [
         [true, false, true, false],
     ),
     Case(
-        Ty::ULONG,
-        0,
-        18446744073709551615,
-        [
-            18446744073709551615,
-            1,
-            0,
-            0,
-            18446744073709551615,
-            18446744073709551615,
-        ],
-        [Some(0), Some(0), None, None],
-        [false, false, false, false],
+        Ty::LONG,
+        -9223372036854775808,
+        9223372036854775807,
+        [-1, 1, -9223372036854775808, 0, -1, -1],
+        [Some(-1), Some(-1), None, None],
+        [false, true, true, false],
     ),
     Case(
         Ty::ULONG,
@@ -326,6 +234,29 @@ const CASES: [Case; 36] = [
         ],
         [Some(1), Some(0), None, None],
         [false, false, false, false],
+    ),
+    Case(
+        Ty::ULONG,
+        0,
+        18446744073709551615,
+        [
+            18446744073709551615,
+            1,
+            0,
+            0,
+            18446744073709551615,
+            18446744073709551615,
+        ],
+        [Some(0), Some(0), None, None],
+        [false, false, false, false],
+    ),
+    Case(
+        Ty::LONG,
+        -9223372036854775808,
+        -9223372036854775808,
+        [0, 0, 0, -9223372036854775808, -9223372036854775808, 0],
+        [Some(1), Some(0), None, None],
+        [true, false, true, false],
     ),
     Case(
         Ty::INT,
@@ -360,35 +291,11 @@ const CASES: [Case; 36] = [
         [false, false, false, false],
     ),
     Case(
-        Ty::UINT,
-        1,
-        31,
-        [32, 4294967266, 31, 1, 31, 30],
-        [Some(0), Some(1), Some(2147483648), Some(0)],
-        [false, false, false, false],
-    ),
-    Case(
-        Ty::LONG,
-        -1,
-        63,
-        [62, -64, -63, 63, -1, -64],
-        [Some(0), Some(-1), Some(-9223372036854775808), Some(-1)],
-        [false, false, false, true],
-    ),
-    Case(
         Ty::ULONG,
         3,
         63,
         [66, 18446744073709551556, 189, 3, 63, 60],
         [Some(0), Some(3), Some(9223372036854775808), Some(0)],
-        [false, false, false, false],
-    ),
-    Case(
-        Ty::UCHAR,
-        200,
-        7,
-        [207, 193, 120, 0, 207, 207],
-        [Some(28), Some(4), Some(0), Some(1)],
         [false, false, false, false],
     ),
     Case(
