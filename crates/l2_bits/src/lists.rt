@@ -1,4 +1,5 @@
 ghost use Rattle.std.specs.Prelude.{◌≡◌};
+ghost use Rattle.std.specs.Cmp.Lexicographic.{pointwise, lists_per, lists_equiv};
 
 use std::marker::Model;
 
@@ -40,6 +41,20 @@ impl<T> List<T> {
     }
 }
 
+impl<T: PartialEq> PartialEq for List<T> {
+    ghost eq = { pointwise T.eq };
+
+    ghost laws = { lists_per T.laws };
+
+    fn eq(&self, other: &Self) -> bool {
+        self.as_slice() == other.as_slice()
+    }
+}
+
+impl<T: Eq> Eq for List<T> {
+    ghost laws = { lists_equiv T.Eq.laws };
+}
+
 #[cfg(test)]
 mod tests {
     use super::*;
@@ -57,6 +72,10 @@ mod tests {
         let types = [CellType::Integer(Ty::INT), CellType::Pointer].to_vec(rt.alloc())?;
         let list = List::new(types);
         assert_eq!(rt; list.as_slice().len(), 2);
+        let alike = List::new([CellType::Integer(Ty::INT), CellType::Pointer].to_vec(rt.alloc())?);
+        let other = List::new([CellType::Integer(Ty::UINT), CellType::Pointer].to_vec(rt.alloc())?);
+        assert_eq!(rt; list, alike);
+        assert_ne!(rt; list, other);
         let back = list.into_vec();
         assert_eq!(rt;
             back.as_slice(),
