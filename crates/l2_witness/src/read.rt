@@ -4,16 +4,17 @@ ghost use Rattle.l2_witness.specs.ValuesFile.{InRange, IsFile, spelling};
 
 use crate::reading::{LineError, Reading, Stage};
 use crate::values::{Values, ValuesError};
+use l2_bits::List;
 use std::alloc::Global;
 
 /// Reads a values file. The work is in proportion to its length.
 pub fn read_values(alloc: Global, bytes: &[u8]) -> Result<Values, ValuesError>
-    ensures ok { IfOk result (λ v. InRange v.turns v.choices.items × (bytes.now ≡ spelling v.turns v.choices.items)) }
+    ensures ok { IfOk result (λ v. InRange v.turns v.choices × (bytes.now ≡ spelling v.turns v.choices)) }
     ensures bad_line { (line : ℕ) → IsErrOf result (ValuesError.BadLine line) → IsFirstBad IsFile (lines_of bytes.now) line }
     // bytes that spell values are read as these, and as no other ones
     ensures exactly { (turns : ℕ) (choices : List ℤ) → InRange turns choices → bytes.now ≡ spelling turns choices →
         MatchResult result
-        (λ v. (v.turns ≡ turns) × (v.choices.items ≡ choices))
+        (λ v. (v.turns ≡ turns) × (v.choices ≡ choices))
         (λ e. e ≡ ValuesError.NoMemory) }
 {
     let mut reading = Reading::new(alloc);
@@ -30,7 +31,7 @@ pub fn read_values(alloc: Global, bytes: &[u8]) -> Result<Values, ValuesError>
     match reading.stage {
         Stage::Over => Ok(Values {
             turns: reading.turns,
-            choices: reading.choices,
+            choices: List::new(reading.choices),
         }),
         _ => Err(ValuesError::BadLine { line }),
     }

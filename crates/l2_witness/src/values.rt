@@ -1,3 +1,4 @@
+use l2_bits::List;
 use thiserror::Error;
 
 /// What a values file tells: how many turns an execution may take, and the choices it takes in order.
@@ -6,7 +7,7 @@ pub struct Values {
     /// From 0 to 100,000,000.
     pub turns: u64,
     /// Each from -2^63 to 2^64 - 1.
-    pub choices: Vec<i128>,
+    pub choices: List<i128>,
 }
 
 /// Why bytes were not read as a values file.

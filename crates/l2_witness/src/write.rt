@@ -26,8 +26,8 @@ fn push_choice(alloc: Global, bytes: &mut Vec<u8>, choice: i128) -> Result<(), A
 
 /// The bytes that spell values, of which `read_values` makes the same values again.
 pub fn write_values(alloc: Global, values: &Values) -> Result<Vec<u8>, AllocError>
-    requires { InRange values.now.turns values.now.choices.items }
-    ensures { IfOk result (λ bytes. bytes.items ≡ spelling values.now.turns values.now.choices.items) }
+    requires { InRange values.now.turns values.now.choices }
+    ensures { IfOk result (λ bytes. bytes.items ≡ spelling values.now.turns values.now.choices) }
 {
     let mut bytes = head_text(alloc, values.turns)?.into_bytes();
     for &choice in values.choices.as_slice() {

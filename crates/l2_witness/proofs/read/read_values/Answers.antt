@@ -47,7 +47,11 @@ all_read c =
 
 pub returns-in-Over-clause-exactly : goal.returns-in-Over-clause-exactly
 returns-in-Over-clause-exactly c = λ turns choices range is.
-    only_values c.args.bytes.now c.loop-rest.reading.stage c.loop-rest.reading.turns turns c.loop-rest.reading.choices.items choices c.in-Over.is (all_read (goal.at.returns-in-Over-clause-exactly c).After-loop-rest) c.loop-rest.invariant.keeps.in_range range is
+    let reading = c.loop-rest.reading in
+    let whole = all_read (goal.at.returns-in-Over-clause-exactly c).After-loop-rest in
+    let same = only_values c.args.bytes.now reading.stage reading.turns turns reading.choices.items choices c.in-Over.is whole c.loop-rest.invariant.keeps.in_range range is in
+    let listed : c.new.result ≡ reading.choices.items = c.new.ensures in
+    (same.0, listed ∙ same.1)
 
 -- the text ends before its last line
 too_early : (c : After-loop-rest) → c.loop-rest.reading.stage ≢ Over → IsFirstBad IsFile (lines_of c.args.bytes.now) c.loop-rest.line
