@@ -10,9 +10,9 @@ use std::rt::Files;
 /// The machine's files, by their paths. It tells no content.
 #[derive(Drop)]
 pub struct FileShelf<'a, R: Files> {
-    rt: &'a R,
-    read_faults: u64,
-    write_faults: u64,
+    pub rt: &'a R,
+    pub read_faults: u64,
+    pub write_faults: u64,
 }
 
 impl<'a, R: Files> FileShelf<'a, R> {
@@ -99,8 +99,8 @@ impl<'a, R: Files> Shelf for FileShelf<'a, R> {
 /// A writer of std, as standard output. It tells no content.
 #[derive(Drop)]
 pub struct StdSink<W: Write + Drop> {
-    writer: W,
-    faults: u64,
+    pub writer: W,
+    pub faults: u64,
 }
 
 impl<W: Write + Drop> StdSink<W> {
