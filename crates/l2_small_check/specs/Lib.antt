@@ -1,2 +1,0 @@
-pub mod Elaboration
-pub mod Tables
