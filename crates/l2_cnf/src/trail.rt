@@ -1,0 +1,124 @@
+ghost use Rattle.std.specs.Prelude.{◌≡◌, ◌≤◌, ◌<◌, ◌^◌, ◌+◌, ◌-◌, ◌++◌, ◌∷◌, [], ℕ, ℤ, pos, neg_ℤ, nat_abs, List, length, take, IfOk, IsTrue, ◌↔◌, Contains, slice_index_or};
+ghost use Rattle.l2_cnf.specs.Trail.{Path, AreOver, AreApart, mark as mark_of};
+
+use crate::Lit;
+use std::alloc::{AllocError, Global};
+use std::marker::Model;
+
+/// Literals that are true, in the order in which they became so. It takes memory only when it is made.
+#[derive(Drop)]
+pub struct Trail {
+    literals: Vec<Lit>,
+    values: Vec<u8>,
+    variables: u64,
+}
+
+impl Model for Trail {
+    ghost use Rattle.std.specs.Prelude.{ℤ, ℕ, List, ◌<◌, vec_capacity};
+    ghost use Rattle.l2_cnf.specs.Trail.{Path, IsTold};
+
+    ghost Value = { Path };
+
+    ghost view = { λ a. record { literals = a.literals.items; variables = a.variables } };
+
+    ghost invariant = { λ a. (IsTold a.values.items a.literals.items a.variables) × (a.variables < vec_capacity a.literals) };
+}
+
+fn mark(l: Lit) -> u8
+    ensures { result ≡ mark_of l }
+{
+    if l.is_positive() { 1 } else { 2 }
+}
+
+impl Trail {
+    pub fn new(alloc: Global, variables: u64) -> Result<Trail, AllocError>
+        requires { variables < 2 ^ 62 }
+        ensures literals { IfOk result (λ t. t.literals ≡ []) }
+        ensures variables { IfOk result (λ t. t.variables ≡ variables) }
+    {
+        let literals = Vec::with_capacity(alloc, variables as usize + 1)?;
+        let values = vec![in alloc; 0; variables as usize + 1]?;
+        Ok(Trail {
+            literals,
+            values,
+            variables,
+        })
+    }
+
+    pub fn len(&self) -> usize
+        ensures len { result ≡ length self.now.literals }
+        ensures most { result ≤ self.now.variables }
+        ensures over { AreOver self.now.variables self.now.literals }
+        ensures apart { AreApart self.now.literals }
+    {
+        self.literals.len()
+    }
+
+    pub fn get(&self, i: usize) -> Lit
+        requires { i < length self.now.literals }
+        ensures { result ≡ slice_index_or self.now.literals i (pos 0) }
+    {
+        self.literals[i]
+    }
+
+    pub fn is_true(&self, l: Lit) -> bool
+        requires { nat_abs l ≤ self.now.variables }
+        ensures { IsTrue result ↔ Contains self.now.literals l }
+    {
+        self.values[l.var() as usize] == mark(l)
+    }
+
+    pub fn is_false(&self, l: Lit) -> bool
+        requires { nat_abs l ≤ self.now.variables }
+        ensures { IsTrue result ↔ Contains self.now.literals (neg_ℤ l) }
+    {
+        self.is_true(l.negated())
+    }
+
+    pub fn has(&self, var: u64) -> bool
+        requires { var ≤ self.now.variables }
+        ensures { IsTrue result ↔ ((l : ℤ) × (Contains self.now.literals l) × (nat_abs l ≡ var)) }
+    {
+        self.values[var as usize] != 0
+    }
+
+    pub fn variables(&self) -> u64
+        ensures { result ≡ self.now.variables }
+    {
+        self.variables
+    }
+
+    /// Takes every literal out.
+    pub fn clear(&mut self)
+        ensures literals { self.new.literals ≡ [] }
+        ensures variables { self.new.variables ≡ self.old.variables }
+    {
+        while self.len() > 0 {
+            self.pop();
+        }
+    }
+
+    pub fn push(&mut self, l: Lit)
+        requires over { nat_abs l ≤ self.old.variables }
+        requires new { (m : ℤ) → Contains self.old.literals m → nat_abs m ≡ nat_abs l → ⊥ }
+        ensures literals { self.new.literals ≡ self.old.literals ++ l ∷ [] }
+        ensures variables { self.new.variables ≡ self.old.variables }
+    {
+        self.values[l.var() as usize] = mark(l);
+        match self.literals.push(l) {
+            Ok(()) => {}
+            Err(_) => unreachable!(),
+        }
+    }
+
+    pub fn pop(&mut self)
+        requires { 0 < length self.old.literals }
+        ensures literals { self.new.literals ≡ take (length self.old.literals - 1) self.old.literals }
+        ensures variables { self.new.variables ≡ self.old.variables }
+    {
+        match self.literals.pop() {
+            Some(l) => self.values[l.var() as usize] = 0,
+            None => unreachable!(),
+        }
+    }
+}
