@@ -12,6 +12,14 @@ literal_true v (negsuc n) = not (v (suc n))
 abbrev pub AreLiterals : List ℤ → Type 0
 AreLiterals clause = (l : ℤ) → Contains clause l → 1 ≤ nat_abs l
 
+-- the variables of these literals are at most this
+abbrev pub IsWithin : ℕ → List ℤ → Type 0
+IsWithin variables literals = (l : ℤ) → Contains literals l → nat_abs l ≤ variables
+
+-- the variables of all clauses are at most this
+abbrev pub AllWithin : ℕ → List (List ℤ) → Type 0
+AllWithin variables list = (clause : List ℤ) → Contains list clause → IsWithin variables clause
+
 -- a clause has a true literal
 abbrev pub HasTrue : (ℕ → Bool) → List ℤ → Type 0
 HasTrue v clause = (l : ℤ) × (Contains clause l) × (literal_true v l ≡ true)

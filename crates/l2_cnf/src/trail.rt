@@ -32,10 +32,12 @@ fn mark(l: Lit) -> u8
 
 impl Trail {
     pub fn new(alloc: Global, variables: u64) -> Result<Trail, AllocError>
-        requires { variables < 2 ^ 62 }
         ensures literals { IfOk result (λ t. t.literals ≡ []) }
         ensures variables { IfOk result (λ t. t.variables ≡ variables) }
     {
+        if variables >= 1 << 62 {
+            return Err(AllocError);
+        }
         let literals = Vec::with_capacity(alloc, variables as usize + 1)?;
         let values = vec![in alloc; 0; variables as usize + 1]?;
         Ok(Trail {
