@@ -1,34 +1,53 @@
 -- A trail's values: what one more literal and one less do to them.
-use Rattle.std.proofs.Common.{◌≡◌, ◌≢◌, inl, inr, ℕ, suc, ◌+◌, ◌<◌, ◌≤◌, List, ◌++◌, [], ◌∷◌, length, get_or, set, refl, sym, ap, ◌∙◌, subst, arith}
-use Rattle.std.specs.Prelude.{ℤ, pos, negsuc, nat_abs, Contains, sum_by}
+use Rattle.std.proofs.Common.{◌≡◌, ◌≢◌, ◌⊎◌, inl, inr, ℕ, suc, zero, ◌+◌, ◌-◌, ◌<◌, ◌≤◌, ◌^◌, Bool, true, false, List, ◌++◌, [], ◌∷◌, take, length, get_or, set, refl, sym, ap, ◌∙◌, subst, arith, rules}
+use Rattle.std.specs.Prelude.{Option, Some, None, ℤ, pos, negsuc, nat_abs, Contains, sum_by}
 use Rattle.std.proofs.lemmas.Bool.{cases_eq, cases_lt}
-use Rattle.std.proofs.lemmas.List.{get_or-set_same, get_or-set_other, length-set, get_or_append_left, get_or_push, get_or_default, length_push}
+use Rattle.std.proofs.lemmas.List.{get_or-set_same, get_or-set_other, length-set, length-append, get_or_append_left, get_or_push, get_or_default, get_or_past, length_push}
 use Rattle.std.proofs.lemmas.List.Elements.{Contains-append_left, Contains-push, Contains-push_cases}
 use Rattle.std.proofs.lemmas.List.Sums.{sum_by-set}
-use Rattle.l2_cnf.specs.Trail.{mark, free, AreApart, IsTold}
+use Rattle.l2_cnf.specs.Lit.{positive}
+use Rattle.l2_cnf.specs.Assignment.{value_of, MakesTrue}
+use Rattle.l2_cnf.specs.Trail.{Path, free, AreOver, AreApart, IsTold}
 
--- a literal's variable and mark determine it
-pub same_literal : (l m : ℤ) → 1 ≤ nat_abs l → nat_abs l ≡ nat_abs m → mark l ≡ mark m → l ≡ m
-same_literal (pos a) (pos b) one e f = ap pos e
-same_literal (pos a) (negsuc b) one e f = absurd (omega arith)
-same_literal (negsuc a) (pos b) one e f = absurd (omega arith)
-same_literal (negsuc a) (negsuc b) one e f = ap negsuc (let s : suc a ≡ suc b = e in cc)
+-- a literal's variable and sign determine it
+pub same_literal : (l m : ℤ) → nat_abs l ≡ nat_abs m → positive l ≡ positive m → l ≡ m
+same_literal (pos a) (pos b) e f = ap pos e
+same_literal (pos a) (negsuc b) e f = cc
+same_literal (negsuc a) (pos b) e f = cc
+same_literal (negsuc a) (negsuc b) e f = ap negsuc (let s : suc a ≡ suc b = e in cc)
 
-pub mark_positive : (l : ℤ) → 1 ≤ mark l
-mark_positive (pos a) = omega arith
-mark_positive (negsuc a) = omega arith
-
-free_mark : (l : ℤ) → free (mark l) ≡ 0
-free_mark (pos a) = refl
-free_mark (negsuc a) = refl
-
-module _ (values : List ℕ) (literals : List ℤ) (n : ℕ) (is : IsTold values literals n) where
-  -- a literal is in the trail if its variable has its mark
-  pub told : (l : ℤ) → get_or values (nat_abs l) 0 ≡ mark l → Contains literals l
-  told l e = elim (is.none (nat_abs l)) [
-    | inl z ↦ absurd (omega (arith, mark_positive l, e, z))
-    | inr found ↦ subst (λ x. Contains literals x) (same_literal found.0 l (is.over found.0 found.1).0 found.2 (sym (is.kept found.0 found.1) ∙ ap (λ v. get_or values v 0) found.2 ∙ e)) found.1
+-- a variable with a value is one of the variables
+pub value_within : (values : List (Option Bool)) (v : ℕ) (b : Bool) → value_of values v ≡ Some b → (1 ≤ v) × (v ≤ length values)
+value_within values zero b h = cc
+value_within values (suc n) b h = elim (cases_lt n (length values)) [
+    | inl within ↦ (omega arith, omega arith)
+    | inr past ↦ let none : get_or values n None ≡ None = get_or_past values n None past in let s : get_or values n None ≡ Some b = h in cc
   ]
+
+-- a variable with a value has a literal that it makes true
+pub literal_with : (values : List (Option Bool)) (v : ℕ) (b : Bool) → value_of values v ≡ Some b → (l : ℤ) × (MakesTrue values l) × (nat_abs l ≡ v)
+literal_with values zero b h = cc
+literal_with values (suc n) true h = (pos (suc n), h, refl)
+literal_with values (suc n) false h = (negsuc n, h, refl)
+
+-- after one variable got or lost a value
+pub value_of-set_same : (values : List (Option Bool)) (v : ℕ) (x : Option Bool) → 1 ≤ v → v ≤ length values → value_of (set values (v - 1) x) v ≡ x
+value_of-set_same values zero x h k = absurd (omega (arith, h))
+value_of-set_same values (suc n) x h k =
+    let e : suc n - 1 ≡ n = omega arith in
+    rw e (get_or-set_same values n x None (omega (arith, k)))
+
+pub value_of-set_other : (values : List (Option Bool)) (v w : ℕ) (x : Option Bool) → 1 ≤ v → w ≢ v → value_of (set values (v - 1) x) w ≡ value_of values w
+value_of-set_other values v zero x h ne = refl
+value_of-set_other values zero (suc m) x h ne = absurd (omega (arith, h))
+value_of-set_other values (suc n) (suc m) x h ne =
+    let e : suc n - 1 ≡ n = omega arith in
+    rw e (get_or-set_other values n m x None (λ s. ne (ap suc s)))
+
+-- where the value of a variable stands
+pub value_at : (values : List (Option Bool)) (v : ℕ) → 1 ≤ v → get_or values (v - 1) None ≡ value_of values v
+value_at values zero h = absurd (omega (arith, h))
+value_at values (suc n) h = let e : suc n - 1 ≡ n = omega arith in ap (λ i. get_or values i None) e
 
 -- the last literal's variable doesn't stand before it
 pub apart_last : (front : List ℤ) (l m : ℤ) → AreApart (front ++ l ∷ []) → Contains front m → nat_abs m ≢ nat_abs l
@@ -55,75 +74,64 @@ AreApart-push literals l apart new i j h k same =
           new (get_or literals i (pos 0)) (i, i_in, get_or_default literals i _ _ i_in) (sym (ap nat_abs (at i i_in)) ∙ same ∙ ap nat_abs last)
     ]
 
+-- the literals of a trail are over its variables
+pub IsTold-over : (values : List (Option Bool)) (literals : List ℤ) → IsTold values literals → AreOver (length values) literals
+IsTold-over values literals is l h = value_within values (nat_abs l) (positive l) (is.made l h)
+
+-- a variable that has no literal in a trail has no value
+pub unset_none : (values : List (Option Bool)) (literals : List ℤ) (v : ℕ) → IsTold values literals → ((m : ℤ) → Contains literals m → nat_abs m ≢ v) → value_of values v ≡ None
+unset_none values literals v is new =
+    let by : (o : Option Bool) → value_of values v ≡ o → value_of values v ≡ None = elim [
+      | None ↦ λ e. e
+      | Some b ↦ λ e. let found = literal_with values v b e in absurd (new found.0 (is.kept found.0 found.1) found.2)
+    ] in by (value_of values v) refl
+
 -- one more literal
-pub IsTold-push : (values : List ℕ) (literals : List ℤ) (n : ℕ) (l : ℤ) → IsTold values literals n → 1 ≤ nat_abs l → nat_abs l ≤ n → ((m : ℤ) → Contains literals m → nat_abs m ≢ nat_abs l) → IsTold (set values (nat_abs l) (mark l)) (literals ++ l ∷ []) n
-IsTold-push values literals n l is one within new =
+pub IsTold-push : (values : List (Option Bool)) (literals : List ℤ) (l : ℤ) → IsTold values literals → 1 ≤ nat_abs l → nat_abs l ≤ length values → ((m : ℤ) → Contains literals m → nat_abs m ≢ nat_abs l) → IsTold (set values (nat_abs l - 1) (Some (positive l))) (literals ++ l ∷ [])
+IsTold-push values literals l is one within new =
     let v = nat_abs l in
-    let in_values : v < length values = omega (arith, is.size) in
-    let was : get_or values v 0 ≡ 0 = elim (is.none v) [ inl z ↦ z | inr found ↦ absurd (new found.0 found.1 found.2) ] in
+    let new_values = set values (v - 1) (Some (positive l)) in
+    let at : value_of new_values v ≡ Some (positive l) = value_of-set_same values v (Some (positive l)) one within in
     record {
-      size = length-set values v (mark l) ∙ is.size;
-      small = is.small;
-      none = λ w. elim (cases_eq w v) [
-        | inl e ↦ inr (l, Contains-push literals l, sym e)
-        | inr ne ↦ elim (is.none w) [
-          | inl z ↦ inl (get_or-set_other values v w (mark l) 0 ne ∙ z)
-          | inr found ↦ inr (found.0, Contains-append_left literals (l ∷ []) found.0 found.1, found.2)
-        ]
+      made = λ m h. elim (Contains-push_cases literals l m h) [
+        | inl old ↦ value_of-set_other values v (nat_abs m) (Some (positive l)) one (new m old) ∙ is.made m old
+        | inr e ↦ subst (MakesTrue new_values) e at
       ];
-      kept = λ m h. elim (Contains-push_cases literals l m h) [
-        | inl old ↦ get_or-set_other values v (nat_abs m) (mark l) 0 (new m old) ∙ is.kept m old
-        | inr e ↦ subst (λ x. get_or (set values v (mark l)) (nat_abs x) 0 ≡ mark x) e (get_or-set_same values v (mark l) 0 in_values)
-      ];
-      over = λ m h. elim (Contains-push_cases literals l m h) [
-        | inl old ↦ is.over m old
-        | inr e ↦ subst (λ x. (1 ≤ nat_abs x) × (nat_abs x ≤ n)) e (one, within)
+      kept = λ m t. elim (cases_eq (nat_abs m) v) [
+        | inl e ↦
+          let told : value_of new_values v ≡ Some (positive m) = ap (value_of new_values) (sym e) ∙ t in
+          let sign : positive l ≡ positive m = cc in
+          subst (Contains (literals ++ l ∷ [])) (same_literal l m (sym e) sign) (Contains-push literals l)
+        | inr ne ↦ Contains-append_left literals (l ∷ []) m (is.kept m (sym (value_of-set_other values v (nat_abs m) (Some (positive l)) one ne) ∙ t))
       ];
       apart = AreApart-push literals l is.apart new;
       count =
-          let s = sum_by-set free values v (mark l) 0 in_values in
-          let f0 : free (get_or values v 0) ≡ 1 = ap free was in
-          let f1 : free (mark l) ≡ 0 = free_mark l in
-          omega (arith, s, is.count, length-set values v (mark l), length_push literals l);
+        let s = sum_by-set free values (v - 1) (Some (positive l)) None (omega (arith, one, within)) in
+        let was : get_or values (v - 1) None ≡ None = value_at values v one ∙ unset_none values literals v is new in
+        let f0 : free (get_or values (v - 1) None) ≡ 1 = ap free was in
+        omega (arith, s, is.count, length-set values (v - 1) (Some (positive l)), length_push literals l)
     }
 
 -- one less literal
-pub IsTold-pop : (values : List ℕ) (front : List ℤ) (n : ℕ) (l : ℤ) → IsTold values (front ++ l ∷ []) n → IsTold (set values (nat_abs l) 0) front n
-IsTold-pop values front n l is =
+pub IsTold-pop : (values : List (Option Bool)) (front : List ℤ) (l : ℤ) → IsTold values (front ++ l ∷ []) → IsTold (set values (nat_abs l - 1) None) front
+IsTold-pop values front l is =
     let v = nat_abs l in
-    let bounds = is.over l (Contains-push front l) in
-    let in_values : v < length values = omega (arith, is.size, bounds.1) in
+    let made = is.made l (Contains-push front l) in
+    let bounds = value_within values v (positive l) made in
+    let at : value_of (set values (v - 1) None) v ≡ None = value_of-set_same values v None bounds.0 bounds.1 in
     record {
-      size = length-set values v 0 ∙ is.size;
-      small = is.small;
-      none = λ w. elim (cases_eq w v) [
-        | inl e ↦ inl (ap (λ x. get_or (set values v 0) x 0) e ∙ get_or-set_same values v 0 0 in_values)
-        | inr ne ↦ elim (is.none w) [
-          | inl z ↦ inl (get_or-set_other values v w 0 0 ne ∙ z)
-          | inr found ↦ elim (Contains-push_cases front l found.0 found.1) [
-            | inl old ↦ inr (found.0, old, found.2)
-            | inr e ↦ absurd (ne (sym found.2 ∙ ap nat_abs (sym e)))
-          ]
+      made = λ m h. value_of-set_other values v (nat_abs m) None bounds.0 (apart_last front l m is.apart h) ∙ is.made m (Contains-append_left front (l ∷ []) m h);
+      kept = λ m t. elim (cases_eq (nat_abs m) v) [
+        | inl e ↦ let told : value_of (set values (v - 1) None) v ≡ Some (positive m) = ap (value_of (set values (v - 1) None)) (sym e) ∙ t in cc
+        | inr ne ↦ elim (Contains-push_cases front l m (is.kept m (sym (value_of-set_other values v (nat_abs m) None bounds.0 ne) ∙ t))) [
+          | inl old ↦ old
+          | inr e ↦ absurd (ne (ap nat_abs (sym e)))
         ]
       ];
-      kept = λ m h. get_or-set_other values v (nat_abs m) 0 0 (apart_last front l m is.apart h) ∙ is.kept m (Contains-append_left front (l ∷ []) m h);
-      over = λ m h. is.over m (Contains-append_left front (l ∷ []) m h);
       apart = AreApart-front front l is.apart;
       count =
-          let s = sum_by-set free values v 0 0 in_values in
-          let f0 : free (get_or values v 0) ≡ 0 = ap free (is.kept l (Contains-push front l)) ∙ free_mark l in
-          omega (arith, s, is.count, length-set values v 0, length_push front l);
+        let s = sum_by-set free values (v - 1) None None (omega (arith, bounds)) in
+        let was : get_or values (v - 1) None ≡ Some (positive l) = value_at values v bounds.0 ∙ made in
+        let f0 : free (get_or values (v - 1) None) ≡ 0 = ap free was in
+        omega (arith, s, is.count, length-set values (v - 1) None, length_push front l)
     }
-
--- the variable 0 has no value
-zero_free : (values : List ℕ) → 0 < length values → get_or values 0 0 ≡ 0 → 1 ≤ sum_by free values
-zero_free values h e =
-    let s = sum_by-set free values 0 1 0 h in
-    let f0 : free (get_or values 0 0) ≡ 1 = ap free e in
-    omega (arith, s, f0)
-
--- no more literals than variables
-pub within_variables : (values : List ℕ) (literals : List ℤ) (n : ℕ) → IsTold values literals n → length literals ≤ n
-within_variables values literals n is =
-    let z : get_or values 0 0 ≡ 0 = elim (is.none 0) [ inl z ↦ z | inr found ↦ absurd (omega (arith, (is.over found.0 found.1).0, found.2)) ] in
-    omega (arith, zero_free values (omega (arith, is.size)) z, is.count, is.size)

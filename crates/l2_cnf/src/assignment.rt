@@ -38,6 +38,22 @@ impl Assignment {
         self.values[var as usize - 1] = Some(value);
     }
 
+    /// Takes a variable's value away.
+    pub fn unset(&mut self, var: u64)
+        requires low { 1 ≤ var }
+        requires high { var ≤ length self.old }
+        ensures { self.new ≡ slice_set self.old (var - 1) None }
+    {
+        self.values[var as usize - 1] = None;
+    }
+
+    /// How many variables there are.
+    pub fn variables(&self) -> u64
+        ensures { result ≡ length self.now }
+    {
+        self.values.len() as u64
+    }
+
     /// The value of a variable; none beyond the variables.
     pub fn get(&self, var: u64) -> Option<bool>
         ensures { result ≡ value_of self.now var }
@@ -47,6 +63,14 @@ impl Assignment {
         } else {
             self.values[var as usize - 1]
         }
+    }
+}
+
+impl Assignment {
+    pub fn makes_true(&self, literal: Lit) -> bool
+        ensures { IsTrue result ↔ MakesTrue self.now literal }
+    {
+        self.get(literal.var()) == Some(literal.is_positive())
     }
 }
 
@@ -68,7 +92,7 @@ fn has_true(a: &Assignment, clause: &[Lit]) -> bool
     ensures { IsTrue result ↔ ((l : ℤ) × (Contains clause.now l) × (MakesTrue a.now l)) }
 {
     for literal in clause {
-        if a.get(literal.var()) == Some(literal.is_positive()) {
+        if a.makes_true(*literal) {
             return true;
         }
     }

@@ -1,7 +1,7 @@
 ghost use Rattle.std.specs.Prelude.{◌≡◌, ◌≤◌, ◌<◌, ◌^◌, ◌+◌, ◌-◌, ◌++◌, ◌∷◌, [], ℕ, ℤ, pos, neg_ℤ, nat_abs, List, length, take, IfOk, IsTrue, ◌↔◌, Contains, slice_index_or};
-ghost use Rattle.l2_cnf.specs.Trail.{Path, AreOver, AreApart, mark as mark_of};
+ghost use Rattle.l2_cnf.specs.Trail.{Path, AreOver, AreApart};
 
-use crate::Lit;
+use crate::{Assignment, Lit};
 use std::alloc::{AllocError, Global};
 use std::marker::Model;
 
@@ -9,25 +9,18 @@ use std::marker::Model;
 #[derive(Drop)]
 pub struct Trail {
     literals: Vec<Lit>,
-    values: Vec<u8>,
-    variables: u64,
+    values: Assignment,
 }
 
 impl Model for Trail {
-    ghost use Rattle.std.specs.Prelude.{ℤ, ℕ, List, ◌<◌, vec_capacity};
+    ghost use Rattle.std.specs.Prelude.{length, ◌≤◌, vec_capacity};
     ghost use Rattle.l2_cnf.specs.Trail.{Path, IsTold};
 
     ghost Value = { Path };
 
-    ghost view = { λ a. record { literals = a.literals.items; variables = a.variables } };
+    ghost view = { λ a. record { literals = a.literals.items; variables = length a.values } };
 
-    ghost invariant = { λ a. (IsTold a.values.items a.literals.items a.variables) × (a.variables < vec_capacity a.literals) };
-}
-
-fn mark(l: Lit) -> u8
-    ensures { result ≡ mark_of l }
-{
-    if l.is_positive() { 1 } else { 2 }
+    ghost invariant = { λ a. (IsTold a.values a.literals.items) × (length a.values ≤ vec_capacity a.literals) };
 }
 
 impl Trail {
@@ -35,16 +28,9 @@ impl Trail {
         ensures literals { IfOk result (λ t. t.literals ≡ []) }
         ensures variables { IfOk result (λ t. t.variables ≡ variables) }
     {
-        if variables >= 1 << 62 {
-            return Err(AllocError);
-        }
-        let literals = Vec::with_capacity(alloc, variables as usize + 1)?;
-        let values = vec![in alloc; 0; variables as usize + 1]?;
-        Ok(Trail {
-            literals,
-            values,
-            variables,
-        })
+        let literals = Vec::with_capacity(alloc, variables as usize)?;
+        let values = Assignment::new(alloc, variables)?;
+        Ok(Trail { literals, values })
     }
 
     pub fn len(&self) -> usize
@@ -67,7 +53,7 @@ impl Trail {
         requires { nat_abs l ≤ self.now.variables }
         ensures { IsTrue result ↔ Contains self.now.literals l }
     {
-        self.values[l.var() as usize] == mark(l)
+        self.values.makes_true(l)
     }
 
     pub fn is_false(&self, l: Lit) -> bool
@@ -81,13 +67,13 @@ impl Trail {
         requires { var ≤ self.now.variables }
         ensures { IsTrue result ↔ ((l : ℤ) × (Contains self.now.literals l) × (nat_abs l ≡ var)) }
     {
-        self.values[var as usize] != 0
+        self.values.get(var).is_some()
     }
 
     pub fn variables(&self) -> u64
         ensures { result ≡ self.now.variables }
     {
-        self.variables
+        self.values.variables()
     }
 
     /// Takes every literal out.
@@ -106,7 +92,7 @@ impl Trail {
         ensures literals { self.new.literals ≡ self.old.literals ++ l ∷ [] }
         ensures variables { self.new.variables ≡ self.old.variables }
     {
-        self.values[l.var() as usize] = mark(l);
+        self.values.set(l.var(), l.is_positive());
         match self.literals.push(l) {
             Ok(()) => {}
             Err(_) => unreachable!(),
@@ -119,7 +105,7 @@ impl Trail {
         ensures variables { self.new.variables ≡ self.old.variables }
     {
         match self.literals.pop() {
-            Some(l) => self.values[l.var() as usize] = 0,
+            Some(l) => self.values.unset(l.var()),
             None => unreachable!(),
         }
     }
