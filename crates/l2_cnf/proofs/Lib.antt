@@ -5,3 +5,4 @@ pub mod Laws
 pub mod Models
 pub mod Parts
 pub mod Trails
+pub mod Within

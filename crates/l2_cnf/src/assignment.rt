@@ -70,7 +70,10 @@ impl Assignment {
     pub fn makes_true(&self, literal: Lit) -> bool
         ensures { IsTrue result ↔ MakesTrue self.now literal }
     {
-        self.get(literal.var()) == Some(literal.is_positive())
+        match self.get(literal.var()) {
+            Some(value) => value == literal.is_positive(),
+            None => false,
+        }
     }
 }
 

@@ -5,38 +5,19 @@ use Rattle.std.proofs.lemmas.List.{get_or_default, append_assoc, get_or_push, le
 use Rattle.std.proofs.lemmas.List.Elements.{Contains-push, Contains-push_cases, Contains-append_cases}
 use Rattle.l2_cnf.specs.Logic.{IsWithin, AllWithin, Satisfies}
 use Rattle.l2_cnf.specs.Steps.{EndsEmpty}
-
--- a clause by its index stands in the list
-pub stands_at : (list : List (List ℤ)) (i : ℕ) (clause : List ℤ) → i < length list → clause ≡ get_or list i [] → Contains list clause
-stands_at list i clause within is = (i, within, get_or_default list i clause [] within ∙ sym is)
-
-pub AllWithin-append : (n : ℕ) (list more : List (List ℤ)) → AllWithin n list → AllWithin n more → AllWithin n (list ++ more)
-AllWithin-append n list more a b clause h = elim (Contains-append_cases list more clause h) [
-  | inl old ↦ a clause old
-  | inr new ↦ b clause new
-]
+use Rattle.l2_cnf.proofs.Within.{AllWithin-none, AllWithin-push, AllWithin-append}
 
 -- a formula and no accepted clauses
 pub AllWithin-fresh : (n : ℕ) (base last steps : List (List ℤ)) → AllWithin n base → AllWithin n last → steps ≡ [] → AllWithin n (base ++ last ++ steps)
-AllWithin-fresh n base last steps a b none = AllWithin-append n (base ++ last) steps (AllWithin-append n base last a b) (subst (AllWithin n) (sym none) (λ clause h. absurd (omega (arith, h.1))))
+AllWithin-fresh n base last steps a b none = AllWithin-append n (base ++ last) steps (AllWithin-append n base last a b) (subst (AllWithin n) (sym none) (AllWithin-none n))
 
 pub Satisfies-fresh : (v : ℕ → Bool) (steps : List (List ℤ)) → steps ≡ [] → Satisfies v steps
 Satisfies-fresh v steps none = subst (Satisfies v) (sym none) (λ clause h. absurd (omega (arith, h.1)))
 
-pub AllWithin-one : (n : ℕ) (list : List (List ℤ)) (clause : List ℤ) → list ≡ clause ∷ [] → IsWithin n clause → AllWithin n list
-AllWithin-one n list clause is within = subst (AllWithin n) (sym is) (λ c h. subst (IsWithin n) (one_clause clause c h) within)
-  where
-    one_clause : (x c : List ℤ) → Contains (x ∷ []) c → x ≡ c
-    one_clause x c (zero, h, e) = e
-    one_clause x c (suc k, h, e) = absurd (omega (arith, h))
-
 -- one more accepted clause
 pub AllWithin-more : (n : ℕ) (formula steps steps' : List (List ℤ)) (clause : List ℤ) → AllWithin n (formula ++ steps) → IsWithin n clause → steps' ≡ steps ++ clause ∷ [] → AllWithin n (formula ++ steps')
 AllWithin-more n formula steps steps' clause all within is =
-    subst (AllWithin n) (append_assoc formula steps (clause ∷ []) ∙ ap (λ x. formula ++ x) (sym is)) (λ c h. elim (Contains-push_cases (formula ++ steps) clause c h) [
-      | inl old ↦ all c old
-      | inr e ↦ subst (IsWithin n) e within
-    ])
+    subst (AllWithin n) (append_assoc formula steps (clause ∷ []) ∙ ap (λ x. formula ++ x) (sym is)) (AllWithin-push n (formula ++ steps) clause all within)
 
 -- no values make the empty clause true
 pub empty_refuted : (v : ℕ → Bool) (steps : List (List ℤ)) → EndsEmpty steps → ¬ Satisfies v steps

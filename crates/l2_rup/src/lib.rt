@@ -5,5 +5,7 @@ mod checker;
 mod held;
 mod hints;
 mod known;
+#[cfg(test)]
+mod tests;
 
 pub use checker::{Checker, StepError};

@@ -3,7 +3,7 @@ use Rattle.std.proofs.lemmas.List.Elements.{Contains-append_left, Contains-appen
 use Rattle.l2_cnf.specs.Logic.{IsWithin}
 use Rattle.std.proofs.lemmas.List.{length-append}
 use Rattle.l2_rup.specs.Checked.{known_of}
-use Rattle.l2_rup.proofs.Knows.{stands_at}
+use Rattle.l2_cnf.proofs.Within.{stands_at}
 use Rattle.l2_rup.proofs.known.Known.clause.Goals as goal
 
 pub returns-then-i-first-clause-within : goal.returns-then-i-first-clause-within
