@@ -20,9 +20,9 @@ same_literal (negsuc a) (negsuc b) e f = ap negsuc (let s : suc a ≡ suc b = e 
 pub value_within : (values : List (Option Bool)) (v : ℕ) (b : Bool) → value_of values v ≡ Some b → (1 ≤ v) × (v ≤ length values)
 value_within values zero b h = cc
 value_within values (suc n) b h = elim (cases_lt n (length values)) [
-    | inl within ↦ (omega arith, omega arith)
-    | inr past ↦ let none : get_or values n None ≡ None = get_or_past values n None past in let s : get_or values n None ≡ Some b = h in cc
-  ]
+  | inl within ↦ (omega arith, omega arith)
+  | inr past ↦ let none : get_or values n None ≡ None = get_or_past values n None past in let s : get_or values n None ≡ Some b = h in cc
+]
 
 -- a variable with a value has a literal that it makes true
 pub literal_with : (values : List (Option Bool)) (v : ℕ) (b : Bool) → value_of values v ≡ Some b → (l : ℤ) × (MakesTrue values l) × (nat_abs l ≡ v)
@@ -99,17 +99,17 @@ IsTold-push values literals l is one within new =
       ];
       kept = λ m t. elim (cases_eq (nat_abs m) v) [
         | inl e ↦
-          let told : value_of new_values v ≡ Some (positive m) = ap (value_of new_values) (sym e) ∙ t in
-          let sign : positive l ≡ positive m = cc in
-          subst (Contains (literals ++ l ∷ [])) (same_literal l m (sym e) sign) (Contains-push literals l)
+            let told : value_of new_values v ≡ Some (positive m) = ap (value_of new_values) (sym e) ∙ t in
+            let sign : positive l ≡ positive m = cc in
+            subst (Contains (literals ++ l ∷ [])) (same_literal l m (sym e) sign) (Contains-push literals l)
         | inr ne ↦ Contains-append_left literals (l ∷ []) m (is.kept m (sym (value_of-set_other values v (nat_abs m) (Some (positive l)) one ne) ∙ t))
       ];
       apart = AreApart-push literals l is.apart new;
       count =
-        let s = sum_by-set free values (v - 1) (Some (positive l)) None (omega (arith, one, within)) in
-        let was : get_or values (v - 1) None ≡ None = value_at values v one ∙ unset_none values literals v is new in
-        let f0 : free (get_or values (v - 1) None) ≡ 1 = ap free was in
-        omega (arith, s, is.count, length-set values (v - 1) (Some (positive l)), length_push literals l)
+          let s = sum_by-set free values (v - 1) (Some (positive l)) None (omega (arith, one, within)) in
+          let was : get_or values (v - 1) None ≡ None = value_at values v one ∙ unset_none values literals v is new in
+          let f0 : free (get_or values (v - 1) None) ≡ 1 = ap free was in
+          omega (arith, s, is.count, length-set values (v - 1) (Some (positive l)), length_push literals l);
     }
 
 -- one less literal
@@ -130,8 +130,8 @@ IsTold-pop values front l is =
       ];
       apart = AreApart-front front l is.apart;
       count =
-        let s = sum_by-set free values (v - 1) None None (omega (arith, bounds)) in
-        let was : get_or values (v - 1) None ≡ Some (positive l) = value_at values v bounds.0 ∙ made in
-        let f0 : free (get_or values (v - 1) None) ≡ 0 = ap free was in
-        omega (arith, s, is.count, length-set values (v - 1) None, length_push front l)
+          let s = sum_by-set free values (v - 1) None None (omega (arith, bounds)) in
+          let was : get_or values (v - 1) None ≡ Some (positive l) = value_at values v bounds.0 ∙ made in
+          let f0 : free (get_or values (v - 1) None) ≡ 0 = ap free was in
+          omega (arith, s, is.count, length-set values (v - 1) None, length_push front l);
     }

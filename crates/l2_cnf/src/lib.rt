@@ -6,6 +6,8 @@ mod clauses;
 mod lines;
 mod lit;
 mod runs;
+#[cfg(test)]
+mod tests;
 pub mod theorems;
 mod trail;
 

@@ -4,7 +4,7 @@ ghost use Rattle.l2_cnf.specs.Lit.{code_of, literal_of, positive as sign_of, IsL
 use std::marker::Model;
 
 /// A literal: twice its variable, and one more where it is negative.
-#[derive(PartialEq, Eq, PartialOrd, Ord, Hash)]
+#[derive(Debug, PartialEq, Eq, PartialOrd, Ord, Hash)]
 pub struct Lit {
     code: u64,
 }

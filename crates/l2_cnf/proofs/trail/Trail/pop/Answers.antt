@@ -15,8 +15,7 @@ unset-requires-clause-high c = omega (arith, c.var.ensures.var, (IsTold-over c.s
 
 pub invariant_of-self : goal.invariant_of-self
 invariant_of-self c =
-    let now : c.unset.new.self ≡ set c.self.inside.values (nat_abs c.in-Some.l - 1) None = c.unset.ensures ∙ ap (λ v. set c.self.inside.values (v - 1) None) c.var.ensures.var in
-    (
+    let now : c.unset.new.self ≡ set c.self.inside.values (nat_abs c.in-Some.l - 1) None = c.unset.ensures ∙ ap (λ v. set c.self.inside.values (v - 1) None) c.var.ensures.var in (
       subst (λ x. IsTold x c.pop.new.self.items) (sym now) (IsTold-pop c.self.inside.values c.pop.new.self.items c.in-Some.l (told (goal.at.invariant_of-self c).After-var)),
-      omega (arith, ap length now, length-set c.self.inside.values (nat_abs c.in-Some.l - 1) None, c.self.invariant.1, c.in-Some.ensures.capacity)
+      omega (arith, ap length now, length-set c.self.inside.values (nat_abs c.in-Some.l - 1) None, c.self.invariant.1, c.in-Some.ensures.capacity),
     )

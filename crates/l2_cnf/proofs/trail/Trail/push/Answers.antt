@@ -16,8 +16,8 @@ told c =
     let same : c.args.self.now.literals ≡ literals = ap (λ p. p.literals) (sym c.self.view_is) in
     let within : nat_abs c.args.l ≤ length c.self.inside.values = omega (arith, c.requires.over, ap (λ p. p.variables) c.self.view_is) in
     subst (λ x. IsTold x (literals ++ c.args.l ∷ [])) (sym (now c)) (IsTold-push c.self.inside.values literals c.args.l c.self.invariant.0
-      (omega (arith, c.var.ensures.low, c.var.ensures.var)) within
-      (λ m h e. c.requires.new m (subst (λ x. Contains x m) (sym same) h) e))
+    (omega (arith, c.var.ensures.low, c.var.ensures.var)) within
+    (λ m h e. c.requires.new m (subst (λ x. Contains x m) (sym same) h) e))
 
 size : (c : After-set) → length c.set.new.self ≡ length c.self.inside.values
 size c = ap length (now c) ∙ length-set c.self.inside.values (nat_abs c.args.l - 1) (Some (positive c.args.l))
@@ -29,8 +29,7 @@ unreachable-requires c =
 
 pub invariant_of-self : goal.invariant_of-self
 invariant_of-self c =
-    let at = (goal.at.invariant_of-self c).After-set in
-    (
+    let at = (goal.at.invariant_of-self c).After-set in (
       subst (IsTold c.set.new.self) (sym c.in-Ok.ensures.items) (told at),
-      omega (arith, size at, c.self.invariant.1, c.in-Ok.ensures.capacity)
+      omega (arith, size at, c.self.invariant.1, c.in-Ok.ensures.capacity),
     )
