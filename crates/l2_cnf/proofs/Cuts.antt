@@ -1,7 +1,7 @@
 -- A list of lists cut from one list: its length, its parts, and one more part.
 use Rattle.std.proofs.Common.{◌≡◌, ℕ, suc, zero, ◌+◌, ◌-◌, ◌<◌, ◌≤◌, List, ◌++◌, [], ◌∷◌, take, drop, length, get_or, refl, sym, ap, ◌∙◌, arith}
 use Rattle.std.specs.Prelude.{slice_range}
-use Rattle.std.proofs.lemmas.List.{take-append-le, drop-append-le, length-drop, drop_at, take_all, length-take-le, take-append-drop}
+use Rattle.std.proofs.lemmas.List.{length-append, take-append-le, drop-append-le, length-drop, drop_at, take_all, length-take-le, take-append-drop}
 use Rattle.l2_cnf.specs.Lists.{cut, AreEnds}
 
 pub length-cut : {X : Type 0} (from : ℕ) (ends : List ℕ) (all : List X) → length (cut from ends all) ≡ length ends
@@ -58,3 +58,17 @@ cut-pop from (x ∷ ends) end start all h e k =
     let whole : take start all ++ drop start all ≡ all = take-append-drop start all in
     let first : slice_range (take start all) from x ≡ slice_range all from x = sym (slice_range-append (take start all) (drop start all) from x h.0 (omega (arith, n, within))) ∙ ap (λ y. slice_range y from x) whole in
     ((h.0, rest.0), (λ i. first i ∷ rest.1 i))
+
+-- one more part, as it is pushed
+module _ {X : Type 0} (ends ends' : List ℕ) (all all' more : List X) (n : ℕ) (are : AreEnds 0 ends (length all)) (grown : all' ≡ all ++ more) (count : n ≡ length all') (ended : ends' ≡ ends ++ n ∷ []) where
+  size : length all' ≡ length all + length more
+  size = ap length grown ∙ length-append all more
+
+  ends_are : ends' ≡ ends ++ (length all + length more) ∷ []
+  ends_are = ended ∙ ap (λ x. ends ++ x ∷ []) (count ∙ size)
+
+  pub AreEnds-grown : AreEnds 0 ends' (length all')
+  AreEnds-grown = rw (ends_are, size) (AreEnds-push 0 ends (length all) (length more) are)
+
+  pub cut-grown : cut 0 ends' all' ≡ cut 0 ends all ++ more ∷ []
+  cut-grown = rw (ends_are, grown) (cut-push 0 ends all more are)

@@ -1,13 +1,13 @@
 -- A trail's values: what one more literal and one less do to them.
-use Rattle.std.proofs.Common.{◌≡◌, ◌≢◌, ◌⊎◌, inl, inr, ℕ, suc, zero, ◌+◌, ◌-◌, ◌<◌, ◌≤◌, ◌^◌, Bool, true, false, List, ◌++◌, [], ◌∷◌, take, length, get_or, set, refl, sym, ap, ◌∙◌, subst, arith, rules}
-use Rattle.std.specs.Prelude.{Option, Some, None, ℤ, pos, negsuc, nat_abs, Contains, sum_by}
+use Rattle.std.proofs.Common.{◌≡◌, ◌≢◌, inl, inr, ℕ, suc, zero, ◌+◌, ◌-◌, ◌<◌, ◌≤◌, Bool, true, false, List, ◌++◌, [], ◌∷◌, length, get_or, set, refl, sym, ap, ◌∙◌, subst, arith}
+use Rattle.std.specs.Prelude.{Option, Some, None, ℤ, pos, negsuc, nat_abs, Contains}
 use Rattle.std.proofs.lemmas.Bool.{cases_eq, cases_lt}
-use Rattle.std.proofs.lemmas.List.{get_or-set_same, get_or-set_other, length-set, length-append, get_or_append_left, get_or_push, get_or_default, get_or_past, length_push}
+use Rattle.std.proofs.lemmas.List.{get_or-set_same, get_or-set_other, length-set, get_or_append_left, get_or_push, get_or_default, get_or_past, length_push}
 use Rattle.std.proofs.lemmas.List.Elements.{Contains-append_left, Contains-push, Contains-push_cases}
 use Rattle.std.proofs.lemmas.List.Sums.{sum_by-set}
 use Rattle.l2_cnf.specs.Lit.{positive}
 use Rattle.l2_cnf.specs.Assignment.{value_of, MakesTrue}
-use Rattle.l2_cnf.specs.Trail.{Path, free, AreOver, AreApart, IsTold}
+use Rattle.l2_cnf.specs.Trail.{free, AreOver, AreApart, IsTold}
 
 -- a literal's variable and sign determine it
 pub same_literal : (l m : ℤ) → nat_abs l ≡ nat_abs m → positive l ≡ positive m → l ≡ m

@@ -1,5 +1,5 @@
 -- Clauses over some variables, one by one.
-use Rattle.std.proofs.Common.{◌≡◌, ◌⊎◌, inl, inr, ℕ, suc, zero, ◌<◌, List, ◌++◌, [], ◌∷◌, length, get_or, sym, ◌∙◌, subst, arith}
+use Rattle.std.proofs.Common.{◌≡◌, inl, inr, ℕ, ◌<◌, List, ◌++◌, [], ◌∷◌, length, get_or, sym, ◌∙◌, subst, arith}
 use Rattle.std.specs.Prelude.{ℤ, Contains}
 use Rattle.std.proofs.lemmas.List.{get_or_default}
 use Rattle.std.proofs.lemmas.List.Elements.{Contains-push_cases, Contains-append_cases}

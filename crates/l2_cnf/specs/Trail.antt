@@ -1,5 +1,5 @@
 -- Literals that are true, in the order in which they became so, and the value that each variable has by them.
-use Rattle.std.specs.Prelude.{◌≡◌, ◌≢◌, ℕ, ◌+◌, ◌<◌, ◌≤◌, Bool, true, false, cond, Option, is_some, ℤ, pos, nat_abs, List, length, slice_index_or, Contains, sum_by}
+use Rattle.std.specs.Prelude.{◌≡◌, ◌≢◌, ℕ, ◌+◌, ◌<◌, ◌≤◌, Bool, cond, Option, is_some, ℤ, pos, nat_abs, List, length, slice_index_or, Contains, sum_by}
 use Rattle.l2_cnf.specs.Assignment.{MakesTrue}
 
 -- true literals over some variables

@@ -49,18 +49,18 @@ impl Trail {
         self.literals[i]
     }
 
-    pub fn is_true(&self, l: Lit) -> bool
-        requires { nat_abs l ≤ self.now.variables }
-        ensures { IsTrue result ↔ Contains self.now.literals l }
+    pub fn is_true(&self, literal: Lit) -> bool
+        requires { nat_abs literal ≤ self.now.variables }
+        ensures { IsTrue result ↔ Contains self.now.literals literal }
     {
-        self.values.makes_true(l)
+        self.values.makes_true(literal)
     }
 
-    pub fn is_false(&self, l: Lit) -> bool
-        requires { nat_abs l ≤ self.now.variables }
-        ensures { IsTrue result ↔ Contains self.now.literals (neg_ℤ l) }
+    pub fn is_false(&self, literal: Lit) -> bool
+        requires { nat_abs literal ≤ self.now.variables }
+        ensures { IsTrue result ↔ Contains self.now.literals (neg_ℤ literal) }
     {
-        self.is_true(l.negated())
+        self.is_true(literal.negated())
     }
 
     pub fn has(&self, var: u64) -> bool
@@ -86,14 +86,14 @@ impl Trail {
         }
     }
 
-    pub fn push(&mut self, l: Lit)
-        requires over { nat_abs l ≤ self.old.variables }
-        requires new { (m : ℤ) → Contains self.old.literals m → nat_abs m ≡ nat_abs l → ⊥ }
-        ensures literals { self.new.literals ≡ self.old.literals ++ l ∷ [] }
+    pub fn push(&mut self, literal: Lit)
+        requires over { nat_abs literal ≤ self.old.variables }
+        requires new { (m : ℤ) → Contains self.old.literals m → nat_abs m ≡ nat_abs literal → ⊥ }
+        ensures literals { self.new.literals ≡ self.old.literals ++ literal ∷ [] }
         ensures variables { self.new.variables ≡ self.old.variables }
     {
-        self.values.set(l.var(), l.is_positive());
-        match self.literals.push(l) {
+        self.values.set(literal.var(), literal.is_positive());
+        match self.literals.push(literal) {
             Ok(()) => {}
             Err(_) => unreachable!(),
         }
@@ -105,7 +105,7 @@ impl Trail {
         ensures variables { self.new.variables ≡ self.old.variables }
     {
         match self.literals.pop() {
-            Some(l) => self.values.unset(l.var()),
+            Some(literal) => self.values.unset(literal.var()),
             None => unreachable!(),
         }
     }

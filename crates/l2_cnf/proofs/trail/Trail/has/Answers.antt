@@ -1,5 +1,5 @@
-use Rattle.std.proofs.Common.{◌≡◌, ◌∙◌, ℕ, Bool, true, refl, sym, ap, subst}
-use Rattle.std.specs.Prelude.{ℤ, nat_abs, Contains, Option, Some, None, is_some}
+use Rattle.std.proofs.Common.{◌≡◌, ◌∙◌, Bool, true, refl, sym, ap, subst}
+use Rattle.std.specs.Prelude.{nat_abs, Contains, Option, Some, None, is_some}
 use Rattle.l2_cnf.specs.Lit.{positive}
 use Rattle.l2_cnf.specs.Assignment.{value_of}
 use Rattle.l2_cnf.proofs.Trails.{literal_with}
