@@ -77,3 +77,14 @@ pub IsDerivation-push : (formula : List (List ℤ)) (n : ℕ) (steps : List Step
 IsDerivation-push formula n [] step derived accepted = (subst (λ x. IsStep x n step.number step.clause step.hints) (append-nil formula) accepted, tt)
 IsDerivation-push formula n (first ∷ steps) step derived accepted =
     (derived.0, IsDerivation-push (formula ++ first.clause ∷ []) n steps step derived.1 (subst (λ x. IsStep x n step.number step.clause step.hints) (sym (append_assoc formula (first.clause ∷ []) (clauses_of steps))) accepted))
+
+-- the steps before the last ones
+pub IsDerivation-front : (formula : List (List ℤ)) (n : ℕ) (front back : List Step) → IsDerivation formula n (front ++ back) → IsDerivation formula n front
+IsDerivation-front formula n [] back derived = tt
+IsDerivation-front formula n (first ∷ front) back derived = (derived.0, IsDerivation-front (formula ++ first.clause ∷ []) n front back derived.1)
+
+-- a step in the middle
+pub IsDerivation-step : (formula : List (List ℤ)) (n : ℕ) (front : List Step) (step : Step) (back : List Step) → IsDerivation formula n (front ++ step ∷ back) → IsStep (formula ++ clauses_of front) n step.number step.clause step.hints
+IsDerivation-step formula n [] step back derived = subst (λ x. IsStep x n step.number step.clause step.hints) (sym (append-nil formula)) derived.0
+IsDerivation-step formula n (first ∷ front) step back derived =
+    subst (λ x. IsStep x n step.number step.clause step.hints) (append_assoc formula (first.clause ∷ []) (clauses_of front)) (IsDerivation-step (formula ++ first.clause ∷ []) n front step back derived.1)

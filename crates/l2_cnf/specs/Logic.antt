@@ -32,11 +32,16 @@ Satisfies v list = (clause : List ℤ) → Contains list clause → HasTrue v cl
 -- clause whose other literals are all false.
 pub data Propagates (list : List (List ℤ)) (given : ℤ → Type 0) : ℤ → Type 0 where
   assumed : {l : ℤ} → given l → Propagates list given l
-  unit : {l : ℤ} (clause : List ℤ) → Contains list clause → Contains clause l → ((m : ℤ) → Contains clause m → m ≢ l → Propagates list given (neg_ℤ m)) → Propagates list given l
+  unit : {l : ℤ} (clause : List ℤ) → Contains list clause → Contains clause l
+      → ((m : ℤ) → Contains clause m → m ≢ l → Propagates list given (neg_ℤ m))
+      → Propagates list given l
 
 -- unit propagation reaches a clause whose literals are all false
 abbrev pub Conflicts : List (List ℤ) → (ℤ → Type 0) → Type 0
-Conflicts list given = (clause : List ℤ) × (Contains list clause) × ((m : ℤ) → Contains clause m → Propagates list given (neg_ℤ m))
+Conflicts list given =
+    (clause : List ℤ)
+    × (Contains list clause)
+    × ((m : ℤ) → Contains clause m → Propagates list given (neg_ℤ m))
 
 -- the negations of a clause's literals
 abbrev pub Negation : List ℤ → ℤ → Type 0
@@ -52,8 +57,11 @@ Follows list clause = Conflicts list (Negation clause)
 
 -- a clause is absorbed: unit propagation under the negation of the others gives each of its literals, or a conflict
 abbrev pub IsAbsorbed : List (List ℤ) → List ℤ → Type 0
-IsAbsorbed list clause = (l : ℤ) → Contains clause l → (Propagates list (NegationBut clause l) l) ⊎ (Conflicts list (NegationBut clause l))
+IsAbsorbed list clause = (l : ℤ) → Contains clause l
+    → (Propagates list (NegationBut clause l) l) ⊎ (Conflicts list (NegationBut clause l))
 
 -- a list settles some literals
 abbrev pub Settles : List (List ℤ) → List ℤ → Type 0
-Settles list literals = ((l : ℤ) × (Contains literals l) × (Contains literals (neg_ℤ l))) ⊎ (Conflicts list (Contains literals))
+Settles list literals =
+    ((l : ℤ) × (Contains literals l) × (Contains literals (neg_ℤ l)))
+    ⊎ (Conflicts list (Contains literals))

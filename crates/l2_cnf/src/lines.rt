@@ -23,7 +23,8 @@ impl Model for Lines {
 
     ghost view = { λ a. steps_of a.numbers.items a.clauses a.hints };
 
-    ghost invariant = { λ a. (length a.clauses ≡ length a.numbers.items) × (length a.hints ≡ length a.numbers.items) };
+    ghost invariant = { λ a. (length a.clauses ≡ length a.numbers.items)
+        × (length a.hints ≡ length a.numbers.items) };
 }
 
 impl Lines {
@@ -85,7 +86,8 @@ fn push_both(
     number: u64,
     hints: &[u64],
 ) -> Result<(), AllocError>
-    ensures ok { OnOk result ((numbers.new.items ≡ numbers.old.items ++ number ∷ []) × (lists.new ≡ lists.old ++ hints.now ∷ [])) }
+    ensures ok { OnOk result ((numbers.new.items ≡ numbers.old.items ++ number ∷ [])
+        × (lists.new ≡ lists.old ++ hints.now ∷ [])) }
     ensures err { OnErr result ((numbers.new.items ≡ numbers.old.items) × (lists.new ≡ lists.old)) }
 {
     numbers.push(number)?;

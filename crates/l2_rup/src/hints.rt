@@ -24,8 +24,10 @@ pub fn all_false(trail: &Trail, clause: &[Lit]) -> bool
 fn first_live(trail: &Trail, clause: &[Lit]) -> usize
     requires { IsWithin trail.now.variables clause.now }
     ensures within { result ≤ length clause.now }
-    ensures before { (k : ℕ) → k < result → Contains trail.now.literals (neg_ℤ (slice_index_or clause.now k (pos 0))) }
-    ensures live { result < length clause.now → ¬ Contains trail.now.literals (neg_ℤ (slice_index_or clause.now result (pos 0))) }
+    ensures before { (k : ℕ) → k < result
+        → Contains trail.now.literals (neg_ℤ (slice_index_or clause.now k (pos 0))) }
+    ensures live { result < length clause.now
+        → ¬ Contains trail.now.literals (neg_ℤ (slice_index_or clause.now result (pos 0))) }
 {
     for (i, literal) in clause.iter().enumerate() {
         if !trail.is_false(*literal) {
@@ -36,12 +38,13 @@ fn first_live(trail: &Trail, clause: &[Lit]) -> usize
 }
 
 /// Whether all literals but this one are false.
-fn others_false(trail: &Trail, clause: &[Lit], l: Lit) -> bool
+fn others_false(trail: &Trail, clause: &[Lit], literal: Lit) -> bool
     requires { IsWithin trail.now.variables clause.now }
-    ensures { IsTrue result ↔ ((m : ℤ) → Contains clause.now m → m ≢ l → Contains trail.now.literals (neg_ℤ m)) }
+    ensures { IsTrue result
+        ↔ ((m : ℤ) → Contains clause.now m → m ≢ literal → Contains trail.now.literals (neg_ℤ m)) }
 {
-    for literal in clause {
-        if *literal != l && !trail.is_false(*literal) {
+    for other in clause {
+        if *other != literal && !trail.is_false(*other) {
             return false;
         }
     }
@@ -51,15 +54,17 @@ fn others_false(trail: &Trail, clause: &[Lit], l: Lit) -> bool
 /// The literal that alone isn't false, if there is one and it is unset.
 pub fn unit_of(trail: &Trail, clause: &[Lit]) -> Option<Lit>
     requires { IsWithin trail.now.variables clause.now }
-    ensures { MatchOption result ((l : ℤ) → ¬ IsUnit trail.now.literals clause.now l) (λ l. IsUnit trail.now.literals clause.now l) }
+    ensures { MatchOption result
+        ((l : ℤ) → ¬ IsUnit trail.now.literals clause.now l)
+        (λ l. IsUnit trail.now.literals clause.now l) }
 {
     let i = first_live(trail, clause);
     if i == clause.len() {
         return None;
     }
-    let l = clause[i];
-    if !trail.is_true(l) && others_false(trail, clause, l) {
-        Some(l)
+    let literal = clause[i];
+    if !trail.is_true(literal) && others_false(trail, clause, literal) {
+        Some(literal)
     } else {
         None
     }
@@ -70,7 +75,8 @@ pub fn negate(trail: &mut Trail, clause: &[Lit]) -> bool
     requires { trail.old.literals ≡ [] }
     ensures variables { trail.new.variables ≡ trail.old.variables }
     ensures cases { MatchBool result
-        ((trail.new.literals ≡ map neg_ℤ clause.now) × (AreOver trail.old.variables clause.now) × (AreApart clause.now))
+        ((trail.new.literals ≡ map neg_ℤ clause.now)
+        × (AreOver trail.old.variables clause.now) × (AreApart clause.now))
         (¬ ((AreOver trail.old.variables clause.now) × (AreApart clause.now))) }
 {
     for literal in clause {
@@ -99,7 +105,7 @@ pub fn follow(known: &Known<'_>, trail: &mut Trail, hints: &[u64]) -> bool
             return all_false(trail, clause);
         }
         match unit_of(trail, clause) {
-            Some(l) => trail.push(l),
+            Some(literal) => trail.push(literal),
             None => return false,
         }
     }

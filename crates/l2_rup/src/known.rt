@@ -26,7 +26,14 @@ impl<'a> Model for Known<'a> {
 
     ghost Value = { Checked };
 
-    ghost view = { λ a. record { base = a.base.now; last = a.last; steps = a.steps.clauses; variables = a.variables; lines = a.steps.lines; literals = a.steps.literals } };
+    ghost view = { λ a. record {
+      base = a.base.now;
+      last = a.last;
+      steps = a.steps.clauses;
+      variables = a.variables;
+      lines = a.steps.lines;
+      literals = a.steps.literals;
+    } };
 
     ghost invariant = { λ a. (AllWithin a.variables (a.base.now ++ a.last ++ a.steps.clauses))
         × ((v : ℕ → Bool) → Satisfies v (a.base.now ++ a.last) → Satisfies v a.steps.clauses) };

@@ -15,8 +15,8 @@ unit_of-requires c = subst (λ n. IsWithin n c.clause-clause.result.now) (sym (c
 
 pub push-requires-clause-over : goal.push-requires-clause-over
 push-requires-clause-over c =
-    let unit : IsUnit c.loop-i.trail.literals c.clause-clause.result.now c.in-Some.l = c.in-Some.ensures in
-    subst (λ n. IsWithin n c.clause-clause.result.now) (sym (c.loop-i.invariant.variables ∙ c.requires)) c.clause-clause.ensures.within c.in-Some.l unit.stands
+    let unit : IsUnit c.loop-i.trail.literals c.clause-clause.result.now c.in-Some.literal = c.in-Some.ensures in
+    subst (λ n. IsWithin n c.clause-clause.result.now) (sym (c.loop-i.invariant.variables ∙ c.requires)) c.clause-clause.ensures.within c.in-Some.literal unit.stands
 
 -- the hints from here on
 rest_is : (hints : List ℕ) (i : ℕ) → i < length hints → drop i hints ≡ get_or hints i 0 ∷ drop (i + 1) hints
@@ -39,10 +39,10 @@ loop-i-preserved c =
     let clauses : List (List ℤ) = (known_of c.args.known.now) in
     let hint : ℕ = get_or c.args.hints.now c.loop-i.i 0 in
     let rest : List ℕ = drop (c.loop-i.i + 1) c.args.hints.now in
-    let unit : IsUnit c.loop-i.trail.literals c.clause-clause.result.now c.in-Some.l = c.in-Some.ensures in
-    let next = Leads-next clauses c.loop-i.trail.literals hint rest c.in-Some.l (rest_length c.args.hints.now c.loop-i.i c.loop-i-test.true c.if-i-hints.false)
+    let unit : IsUnit c.loop-i.trail.literals c.clause-clause.result.now c.in-Some.literal = c.in-Some.ensures in
+    let next = Leads-next clauses c.loop-i.trail.literals hint rest c.in-Some.literal (rest_length c.args.hints.now c.loop-i.i c.loop-i-test.true c.if-i-hints.false)
     (c.if-hint-lt1.false, omega (arith, c.if-hint-len.false, c.len.ensures.len))
-    (subst (λ x. IsUnit c.loop-i.trail.literals x c.in-Some.l) c.clause-clause.ensures.clause unit) in
+    (subst (λ x. IsUnit c.loop-i.trail.literals x c.in-Some.literal) c.clause-clause.ensures.clause unit) in
     let here = rest_is c.args.hints.now c.loop-i.i c.loop-i-test.true in
     record {
       variables = c.push.ensures.variables ∙ c.loop-i.invariant.variables;
