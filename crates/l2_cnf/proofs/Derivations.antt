@@ -1,11 +1,11 @@
 -- A step that is accepted follows by reverse unit propagation, and so it is implied; so is every clause of a derivation.
-use Rattle.std.proofs.Common.{◌≡◌, inl, inr, ℕ, suc, zero, ◌-◌, ◌<◌, Bool, List, ◌++◌, [], ◌∷◌, length, get_or, map, refl, sym, ap, ◌∙◌, subst, arith}
-use Rattle.std.specs.Prelude.{ℤ, neg_ℤ, Contains}
+use Rattle.std.proofs.Common.{◌≡◌, inl, inr, ℕ, suc, zero, ◌-◌, ◌<◌, ◌≤◌, Bool, List, ◌++◌, [], ◌∷◌, length, get_or, map, refl, sym, ap, ◌∙◌, subst, arith}
+use Rattle.std.specs.Prelude.{ℤ, neg_ℤ, Contains, ◌↔◌}
 use Rattle.std.proofs.lemmas.List.{get_or_default, get_or-map, length-map, append_assoc, append-nil}
 use Rattle.std.proofs.lemmas.List.Elements.{Contains-push_cases, Contains-append_cases}
 use lib.IntN.{neg_ℤ-neg_ℤ}
 use Rattle.l2_cnf.specs.Logic.{Propagates, assumed, unit, Conflicts, Negation, Follows, Satisfies, HasTrue}
-use Rattle.l2_cnf.specs.Steps.{Step, HasNumber, clause_of, Leads, IsStep, IsDerivation, clauses_of}
+use Rattle.l2_cnf.specs.Steps.{Step, IsUnit, HasNumber, clause_of, Leads, IsStep, IsDerivation, clauses_of}
 use Rattle.l2_cnf.proofs.Laws.{Follows-implied}
 
 pub Contains-map : (clause : List ℤ) (m : ℤ) → Contains clause m → Contains (map neg_ℤ clause) (neg_ℤ m)
@@ -22,6 +22,11 @@ pub numbered : (clauses : List (List ℤ)) (hint : ℕ) → HasNumber clauses hi
 numbered clauses hint h =
     let within : hint - 1 < length clauses = omega (arith, h.0, h.1) in
     (hint - 1, within, get_or_default clauses (hint - 1) _ _ within)
+
+-- at a hint with others after it
+pub Leads-more : (clauses : List (List ℤ)) (t : List ℤ) (hint : ℕ) (hints : List ℕ) → 1 ≤ length hints → Leads clauses t (hint ∷ hints) ↔ ((HasNumber clauses hint) × ((l : ℤ) × (IsUnit t (clause_of clauses hint) l) × (Leads clauses (t ++ l ∷ []) hints)))
+Leads-more clauses t hint [] h = absurd (omega (arith, h))
+Leads-more clauses t hint (next ∷ hints) h = (λ x. x, λ x. x)
 
 -- hints that lead to a false clause show a conflict
 pub Leads-conflicts : (clauses : List (List ℤ)) (given : ℤ → Type 0) (t : List ℤ) (hints : List ℕ) → ((m : ℤ) → Contains t m → Propagates clauses given m) → Leads clauses t hints → Conflicts clauses given

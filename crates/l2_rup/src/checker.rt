@@ -103,7 +103,9 @@ impl<'a> Checker<'a> {
         self.known.restart(last, lines, literals)
     }
 
-    /// Accepts a step exactly by the step rule.
+    /// Accepts a step exactly by the step rule: it has the next number, and its literals have distinct variables of the
+    /// formula. From their negations, each hint but the last names a clause that makes one more literal true, and the
+    /// last hint names a clause whose literals are all false. The cost is that of these clauses alone.
     pub fn step(&mut self, number: u64, clause: &[Lit], hints: &[u64]) -> Result<(), StepError>
         requires lines { 1 ≤ self.old.lines }
         requires literals { length clause.now ≤ self.old.literals }

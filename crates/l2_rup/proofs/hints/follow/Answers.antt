@@ -2,7 +2,8 @@ use Rattle.std.proofs.Common.{◌≡◌, ◌<◌, ◌≤◌, ◌+◌, ◌∷◌,
 use Rattle.std.specs.Prelude.{ℤ}
 use Rattle.std.proofs.lemmas.List.{drop_more, length-drop}
 use Rattle.l2_cnf.specs.Steps.{Leads, IsUnit}
-use Rattle.l2_rup.proofs.Looks.{Leads-more, Leads-next}
+use Rattle.l2_cnf.proofs.Derivations.{Leads-more}
+use Rattle.l2_rup.proofs.Looks.{Leads-next}
 use Rattle.l2_cnf.specs.Logic.{IsWithin}
 use Rattle.l2_rup.specs.Checked.{known_of}
 use Rattle.l2_rup.proofs.hints.follow.Goals as goal
