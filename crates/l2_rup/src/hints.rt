@@ -1,4 +1,5 @@
 ghost use Rattle.std.specs.Prelude.{◌≡◌, ◌≢◌, ◌≤◌, ◌<◌, ◌^◌, ◌+◌, ◌-◌, ◌++◌, ◌∷◌, [], ℕ, ℤ, pos, neg_ℤ, nat_abs, List, map, length, take, IfOk, IsTrue, ◌↔◌, Contains, slice_index_or, MatchOption, MatchBool};
+ghost use Rattle.std.specs.Bool.{OnTrue, OnFalse};
 ghost use Rattle.l2_cnf.specs.Trail.{Path, AreOver, AreApart};
 ghost use Rattle.l2_cnf.specs.Steps.{IsAllFalse, IsUnit, Leads};
 ghost use Rattle.l2_cnf.specs.Logic.{IsWithin};
@@ -8,7 +9,7 @@ use crate::known::Known;
 use l2_cnf::{Lit, Trail};
 
 /// Whether all literals are false.
-pub fn all_false(trail: &Trail, clause: &[Lit]) -> bool
+fn all_false(trail: &Trail, clause: &[Lit]) -> bool
     requires { IsWithin trail.now.variables clause.now }
     ensures { IsTrue result ↔ IsAllFalse trail.now.literals clause.now }
 {
@@ -52,7 +53,7 @@ fn others_false(trail: &Trail, clause: &[Lit], literal: Lit) -> bool
 }
 
 /// The literal that alone isn't false, if there is one and it is unset.
-pub fn unit_of(trail: &Trail, clause: &[Lit]) -> Option<Lit>
+fn unit_of(trail: &Trail, clause: &[Lit]) -> Option<Lit>
     requires { IsWithin trail.now.variables clause.now }
     ensures { MatchOption result
         ((l : ℤ) → ¬ IsUnit trail.now.literals clause.now l)
@@ -67,6 +68,23 @@ pub fn unit_of(trail: &Trail, clause: &[Lit]) -> Option<Lit>
         Some(literal)
     } else {
         None
+    }
+}
+
+/// Makes that literal true, if there is one.
+fn advance(trail: &mut Trail, clause: &[Lit]) -> bool
+    requires { IsWithin trail.old.variables clause.now }
+    ensures variables { trail.new.variables ≡ trail.old.variables }
+    ensures moved { OnTrue result ((l : ℤ) × (IsUnit trail.old.literals clause.now l)
+        × (trail.new.literals ≡ trail.old.literals ++ l ∷ [])) }
+    ensures stuck { OnFalse result ((l : ℤ) → ¬ IsUnit trail.old.literals clause.now l) }
+{
+    match unit_of(trail, clause) {
+        Some(literal) => {
+            trail.push(literal);
+            true
+        }
+        None => false,
     }
 }
 
@@ -104,9 +122,8 @@ pub fn follow(known: &Known<'_>, trail: &mut Trail, hints: &[u64]) -> bool
         if i + 1 == hints.len() {
             return all_false(trail, clause);
         }
-        match unit_of(trail, clause) {
-            Some(literal) => trail.push(literal),
-            None => return false,
+        if !advance(trail, clause) {
+            return false;
         }
     }
     false
