@@ -1,5 +1,6 @@
-pub mod Places
-pub mod Refusals
-pub mod Raw
 pub mod Checked
+pub mod Kinds
+pub mod Places
 pub mod Programs
+pub mod Raw
+pub mod Refusals

@@ -1,3 +1,6 @@
+ghost use Rattle.std.specs.Prelude.{◌≡◌};
+ghost use Rattle.l2_syntax.specs.Kinds.{kind_text};
+
 use crate::checked::Checked;
 use crate::place::Place;
 use crate::token::Name;
@@ -32,6 +35,26 @@ pub enum Kind {
     Division,
     Shift,
     Overflow,
+}
+
+impl Kind {
+    /// The kind's name, as it is printed.
+    pub fn name(self) -> &'static str
+        ensures { result.now ≡ kind_text self }
+    {
+        match self {
+            Kind::Assertion => "assertion",
+            Kind::Bounds => "bounds",
+            Kind::Null => "null",
+            Kind::Invalid => "invalid",
+            Kind::Lifetime => "lifetime",
+            Kind::Pointer => "pointer",
+            Kind::Object => "object",
+            Kind::Division => "division",
+            Kind::Shift => "shift",
+            Kind::Overflow => "overflow",
+        }
+    }
 }
 
 /// A variable or parameter: its name's number and place, its cells in order, whether its storage is static, and its function (0 for file scope).
