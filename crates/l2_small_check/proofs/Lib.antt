@@ -1,1 +1,5 @@
 pub mod Lookups
+pub mod Places
+pub mod Rows
+pub mod Steps
+pub mod Weights

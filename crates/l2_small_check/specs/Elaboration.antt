@@ -48,10 +48,22 @@ pub record Elaborated (A : Type 0) : Type 0 where
   pub scope : Scope
   pub found : Found
 
+abbrev pub stays : {A : Type 0} → Scope → Found → A → Elaborated A
+stays scope found t = record { tree = t; scope = scope; found = found }
+
+-- the same, made into something larger
+abbrev pub made : {A B : Type 0} → (A → B) → Elaborated A → Elaborated B
+made f r = record { tree = f r.tree; scope = r.scope; found = r.found }
+
 -- goes on where there is something
 abbrev pub and_then : {A B : Type 0} → Option A → (A → Option B) → Option B
 and_then None f = None
 and_then (Some a) f = f a
+
+-- names go out of scope at the end of the block or the statement that declares them (C11 6.2.1p4 and 6.8.4p3)
+abbrev pub within : {A : Type 0} → Scope → Option (Elaborated A) → Option (Elaborated A)
+within scope None = None
+within scope (Some r) = Some (stays scope r.found r.tree)
 
 -- ---- expressions
 
@@ -66,7 +78,13 @@ typed scope (raw.Binary op x y) = and_then (typed scope x) (λ a. option_map (ch
 -- ---- statements
 
 abbrev pub object_number : Found → ℕ
-object_number found = suc (length found.objects)
+object_number found = length found.objects + 1
+
+abbrev pub loop_number : Found → ℕ
+loop_number found = length found.loops + 1
+
+abbrev pub check_number : Found → ℕ
+check_number found = length found.checks + 1
 
 -- a declaration: the name is new, and stands for the next object from here on
 abbrev pub declare : Scope → Found → ℕ → Place → Option (Elaborated ℕ)
@@ -76,9 +94,6 @@ declare scope found n p =
       tree = object_number found;
       scope = scope ++ record { name = n; object = object_number found } ∷ [];
       found = record found { objects = found.objects ++ variable n p ∷ [] } })
-
-abbrev pub stays : {A : Type 0} → Scope → Found → A → Elaborated A
-stays scope found t = record { tree = t; scope = scope; found = found }
 
 abbrev pub with_loop : Found → Place → Found
 with_loop found p = record found { loops = found.loops ++ record { place = p; function = 1; mods = []; vars = [] } ∷ [] }
@@ -91,37 +106,36 @@ abbrev pub chain : List CheckedTree → CheckedTrees
 chain [] = checked.none
 chain (t ∷ rest) = checked.more t (chain rest)
 
+abbrev pub block : List CheckedTree → CheckedTree
+block all = checked.Block (chain all)
+
 abbrev mutual
   pub item : Scope → Found → StmtTree → Option (Elaborated CheckedTree)
-  item scope found (raw.Block all) =
-      and_then (items scope found all) (λ r. Some (stays scope r.found (checked.Block (chain r.tree))))
-  item scope found (raw.Declare n p) =
-      and_then (declare scope found n p) (λ d. Some (record { tree = checked.Declare d.tree; scope = d.scope; found = d.found }))
+  item scope found (raw.Block all) = option_map (made block) (within scope (items scope found all))
+  item scope found (raw.Declare n p) = option_map (made checked.Declare) (declare scope found n p)
   item scope found (raw.Initialise n p e) =
       -- the name is in scope in its own initialiser (C11 6.2.1p7)
-      and_then (declare scope found n p) (λ d. and_then (typed d.scope e) (λ t.
-      Some (record { tree = checked.Initialise d.tree t; scope = d.scope; found = d.found })))
+      and_then (declare scope found n p) (λ d. option_map (λ t. stays d.scope d.found (checked.Initialise d.tree t)) (typed d.scope e))
   item scope found (raw.Assign n p e) =
-      and_then (lookup scope n) (λ o. and_then (typed scope e) (λ t.
-      Some (stays scope found (checked.Evaluate (checked.Assign (checked.Object o) t)))))
+      and_then (lookup scope n) (λ o. option_map (λ t. stays scope found (checked.Evaluate (checked.Assign (checked.Object o) t))) (typed scope e))
   item scope found (raw.If e s) =
-      and_then (typed scope e) (λ t. and_then (item scope found s) (λ r. Some (stays scope r.found (checked.If t r.tree))))
+      and_then (typed scope e) (λ t. option_map (made (checked.If t)) (within scope (item scope found s)))
   item scope found (raw.IfElse e s z) =
-      and_then (typed scope e) (λ t. and_then (item scope found s) (λ r. and_then (item scope r.found z) (λ q.
-      Some (stays scope q.found (checked.IfElse t r.tree q.tree)))))
+      and_then (typed scope e) (λ t. and_then (within scope (item scope found s)) (λ r.
+      option_map (made (checked.IfElse t r.tree)) (within scope (item scope r.found z))))
   item scope found (raw.While p e s) =
-      and_then (typed scope e) (λ t. and_then (item scope (with_loop found p) s) (λ r.
-      Some (stays scope r.found (checked.While (suc (length found.loops)) t r.tree))))
-  item scope found (raw.Assert p e) =
       and_then (typed scope e) (λ t.
-      Some (stays scope (with_check found p) (checked.Evaluate (checked.Assert (suc (length found.checks)) t))))
-  item scope found (raw.Return e) = and_then (typed scope e) (λ t. Some (stays scope found (checked.Return t)))
+      option_map (made (checked.While (loop_number found) t)) (within scope (item scope (with_loop found p) s)))
+  item scope found (raw.Assert p e) =
+      option_map (λ t. stays scope (with_check found p) (checked.Evaluate (checked.Assert (check_number found) t))) (typed scope e)
+  item scope found (raw.Return e) = option_map (λ t. stays scope found (checked.Return t)) (typed scope e)
 
   pub items : Scope → Found → StmtTrees → Option (Elaborated (List CheckedTree))
   items scope found raw.none = Some (stays scope found [])
   items scope found (raw.also all s) =
-      and_then (items scope found all) (λ r. and_then (item r.scope r.found s) (λ q.
-      Some (record { tree = r.tree ++ q.tree ∷ []; scope = q.scope; found = q.found })))
+      and_then (items scope found all) (λ r. option_map (made (λ t. r.tree ++ t ∷ [])) (item r.scope r.found s))
+
+-- ---- units
 
 abbrev pub nothing_found : Found
 nothing_found = record { objects = []; loops = []; checks = [] }
@@ -133,9 +147,16 @@ main_name = record { bytes = codes "main" }
 abbrev pub main_function : UnitTree → CheckedTree → FunctionTree
 main_function u body = record { name = length u.names; place = u.main; parameters = []; result = Integer int_type ∷ []; body = body }
 
+abbrev pub program_with : UnitTree → Elaborated (List CheckedTree) → ProgramTree
+program_with u r = record {
+  objects = r.found.objects;
+  functions = main_function u (block r.tree) ∷ [];
+  loops = r.found.loops;
+  checks = r.found.checks;
+  names = u.names ++ main_name ∷ [];
+  static_values = [];
+  thresholds = [];
+}
+
 abbrev pub program_of : UnitTree → Option ProgramTree
-program_of u =
-    and_then (items [] nothing_found u.items) (λ r.
-    Some (record {
-      objects = r.found.objects; functions = main_function u (checked.Block (chain r.tree)) ∷ []; loops = r.found.loops;
-      checks = r.found.checks; names = u.names ++ main_name ∷ []; static_values = []; thresholds = [] }))
+program_of u = option_map (program_with u) (items [] nothing_found u.items)

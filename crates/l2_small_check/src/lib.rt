@@ -3,8 +3,14 @@
 
 mod entry;
 mod error;
+mod expressions;
+mod found;
+mod make;
+mod statements;
 mod table;
+mod unit;
 
 pub use error::CheckError;
-pub use table::Table;
+pub use found::Found;
+pub use unit::check;
 pub use entry::Entry;

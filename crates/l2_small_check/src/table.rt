@@ -1,13 +1,16 @@
 // The names in scope, and what was found so far.
-ghost use Rattle.std.specs.Prelude.{◌≡◌, ◌+◌, ◌≤◌, [], None, Some, length, take, IfOk, IsErrOf, IfErr};
-ghost use Rattle.l2_small_check.specs.Elaboration.{lookup, declare, with_loop, with_check, nothing_found};
-ghost use Rattle.l2_small_check.specs.Tables.{place_of, ArePlaced};
+ghost use Rattle.std.specs.Prelude.{◌≡◌, ◌<◌, ℕ, [], None, Some, length, take, IfOk, IsErrOf, IfErr};
+ghost use Rattle.l2_small_check.specs.declared.error.CheckError.TheVariants.{NoMemory};
+ghost use Rattle.l2_small_check.specs.Elaboration.{lookup, declare, variable, with_loop, with_check, nothing_found, loop_number, check_number};
+ghost use Rattle.l2_small_check.specs.Tables.{place_of, elaborated, ArePlaced};
+ghost use Rattle.l2_small_check.specs.Founds.{found_of};
 
 use crate::entry::Entry;
 use crate::error::CheckError;
+use crate::found::Found;
 use l2_bits::{List, Ty};
 use l2_syntax::{CellType, CheckInfo, Kind, LoopInfo, ObjectInfo, Place};
-use std::alloc::{AllocError, Global};
+use std::alloc::Global;
 use std::marker::Model;
 
 /// The names in scope, and the objects, loops and checks of the text so far.
@@ -66,23 +69,84 @@ impl Table {
         self.entries.truncate(count);
     }
 
-    /// The number of the loop at this place.
-    pub fn add_loop(&mut self, alloc: Global, place: Place) -> Result<usize, AllocError>
-        ensures number { IfOk result (λ n. n ≡ length self.old.found.loops + 1) }
-        ensures ok { IfOk result (λ n. self.new ≡ record self.old { found = with_loop self.old.found place }) }
+    /// The number of the object that a name stands for from here on.
+    pub fn declare(&mut self, alloc: Global, name: u32, place: Place) -> Result<u32, CheckError>
+        ensures ok { IfOk result (λ n. declare self.old.scope self.old.found name place ≡ Some (elaborated n self.new)) }
+        ensures not_small { IsErrOf result CheckError.NotSmall → declare self.old.scope self.old.found name place ≡ None }
     {
-        self.loops.push(LoopInfo { place, function: 1, mods: List::new(Vec::new(alloc)), vars: List::new(Vec::new(alloc)) })?;
-        Ok(self.loops.len())
+        if place_of(&self.places, name) != 0 || self.objects.len() >= 65536 {
+            return Err(CheckError::NotSmall);
+        }
+        grow(&mut self.places, name)?;
+        let variable = variable(alloc, name, place)?;
+        self.objects.push(variable)?;
+        let object = self.objects.len() as u32;
+        self.places[name as usize] = self.entries.len() + 1;
+        self.entries.push(Entry { name, object })?;
+        Ok(object)
+    }
+
+    /// The number of the loop at this place.
+    pub fn add_loop(&mut self, alloc: Global, place: Place) -> Result<u32, CheckError>
+        ensures number { IfOk result (λ n. n ≡ loop_number self.old.found) }
+        ensures ok { IfOk result (λ n. self.new ≡ record self.old { found = with_loop self.old.found place }) }
+        ensures err { IfErr result (λ f. f ≡ NoMemory) }
+    {
+        let no_objects = List::new(Vec::new(alloc));
+        self.loops.push(LoopInfo { place, function: 1, mods: no_objects, vars: List::new(Vec::new(alloc)) })?;
+        number(self.loops.len())
     }
 
     /// The number of the assertion at this place.
-    pub fn add_check(&mut self, place: Place) -> Result<usize, AllocError>
-        ensures number { IfOk result (λ n. n ≡ length self.old.found.checks + 1) }
+    pub fn add_check(&mut self, place: Place) -> Result<u32, CheckError>
+        ensures number { IfOk result (λ n. n ≡ check_number self.old.found) }
         ensures ok { IfOk result (λ n. self.new ≡ record self.old { found = with_check self.old.found place }) }
+        ensures err { IfErr result (λ f. f ≡ NoMemory) }
     {
         self.checks.push(CheckInfo { place, kind: Kind::Assertion })?;
-        Ok(self.checks.len())
+        number(self.checks.len())
     }
+
+    /// What was found: the objects, the loops and the checks.
+    pub fn into_found(self) -> Found
+        ensures { found_of result ≡ self.found }
+    {
+        let Table { objects, loops, checks, .. } = self;
+        Found { objects: List::new(objects), loops: List::new(loops), checks: List::new(checks) }
+    }
+}
+
+/// A length as a number. One that is too large is want of memory.
+pub fn number(length: usize) -> Result<u32, CheckError>
+    ensures ok { IfOk result (λ n. n ≡ length) }
+    ensures err { IfErr result (λ f. f ≡ NoMemory) }
+{
+    match u32::try_from(length) {
+        Ok(n) => Ok(n),
+        Err(_) => Err(CheckError::NoMemory),
+    }
+}
+
+/// A variable of type `int` in `main`.
+fn variable(alloc: Global, name: u32, place: Place) -> Result<ObjectInfo, CheckError>
+    ensures ok { IfOk result (λ o. o ≡ variable name place) }
+    ensures err { IfErr result (λ f. f ≡ NoMemory) }
+{
+    let cells = List::new([CellType::Integer(Ty::INT)].to_vec(alloc)?);
+    Ok(ObjectInfo { name, place, cells, is_static: false, function: 1 })
+}
+
+/// Makes room for a name's place.
+#[tactic(auto, using(crate::proofs::Places::places))]
+fn grow(places: &mut Vec<usize>, name: u32) -> Result<(), CheckError>
+    ensures room { IfOk result (λ u. name < length places.new.items) }
+    ensures same { (n : ℕ) → place_of places.new.items n ≡ place_of places.old.items n }
+    ensures err { IfErr result (λ f. f ≡ NoMemory) }
+{
+    for _ in places.len()..name as usize + 1 {
+        places.push(0)?;
+    }
+    Ok(())
 }
 
 /// One more than the place of a name's entry, or 0.

@@ -1,0 +1,29 @@
+-- What statements one after another become, from the first one on.
+use Rattle.std.proofs.Common.{◌≡◌, List, [], ◌∷◌, map, Option, Some, None, refl, ap, ◌∙◌}
+use Rattle.std.specs.Prelude.{option_map, ◌++◌}
+use Rattle.l2_syntax.specs.declared.raw.Stmt.{Stmt}
+use Rattle.l2_syntax.specs.declared.checked.Checked.{Checked}
+use Rattle.l2_syntax.specs.Raw.{StmtTree, StmtTrees, none, also, stmt_tree, stmts_onto}
+use Rattle.l2_syntax.specs.Checked.{CheckedTree, CheckedTrees, more, checked_tree, checked_trees}
+use Rattle.l2_small_check.specs.Elaboration.{Scope, Found, Elaborated, and_then, made, item, items, chain}
+
+-- one statement more
+abbrev pub and_item : Option (Elaborated (List CheckedTree)) → StmtTree → Option (Elaborated (List CheckedTree))
+and_item start s = and_then start (λ r. option_map (made (λ t. r.tree ++ t ∷ [])) (item r.scope r.found s))
+
+-- these statements more
+abbrev pub items_after : Option (Elaborated (List CheckedTree)) → List Stmt → Option (Elaborated (List CheckedTree))
+items_after start [] = start
+items_after start (s ∷ rest) = items_after (and_item start (stmt_tree s)) rest
+
+pub items_onto : (scope : Scope) (found : Found) (ts : StmtTrees) (all : List Stmt) → items scope found (stmts_onto ts all) ≡ items_after (items scope found ts) all
+items_onto scope found ts [] = refl
+items_onto scope found ts (s ∷ rest) = items_onto scope found (also ts (stmt_tree s)) rest
+
+pub none_after : (all : List Stmt) → items_after None all ≡ None
+none_after [] = refl
+none_after (s ∷ rest) = none_after rest
+
+pub chain_of_trees : (all : List Checked) → chain (map checked_tree all) ≡ checked_trees all
+chain_of_trees [] = refl
+chain_of_trees (t ∷ rest) = ap (more (checked_tree t)) (chain_of_trees rest)
