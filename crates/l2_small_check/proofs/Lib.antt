@@ -1,3 +1,4 @@
+pub mod Kept
 pub mod Lookups
 pub mod Places
 pub mod Rows

@@ -1,8 +1,8 @@
 -- The places of names, as they are written.
-use Rattle.std.proofs.Common.{◌≡◌, ◌≢◌, ℕ, zero, suc, ◌+◌, ◌<◌, ◌≤◌, ◌↔◌, Bool, true, false, List, [], ◌∷◌, ◌++◌, length, take, get_or, set, refl, sym, ap, ◌∙◌, subst, arith}
+use Rattle.std.proofs.Common.{◌≡◌, ◌≢◌, ℕ, zero, suc, ◌+◌, ◌<◌, ◌≤◌, ◌↔◌, Bool, true, false, List, [], ◌∷◌, ◌++◌, length, get_or, set, refl, sym, ap, ◌∙◌, subst, arith}
 use Rattle.std.specs.Prelude.{slice_set, ◌||◌, ◌==◌}
 use Rattle.std.proofs.Math.ListN.{get_or-append}
-use Rattle.std.proofs.Math.Seq.{get_or-append_seam, take-append_seam, take-length}
+use Rattle.std.proofs.Math.Seq.{get_or-append_seam}
 use Rattle.std.proofs.lemmas.List.{get_or-set_same, get_or-set_other, length-append}
 use native.Mathlib.Decide.{ℕ_discrete, dec_lt}
 use Rattle.l2_syntax.specs.declared.program.ObjectInfo.{ObjectInfo}
@@ -64,10 +64,3 @@ module _ (old places : List ℕ) (n k : ℕ) (same : (m : ℕ) → place_of plac
         let at = elsewhere m h in
         let (there, back) = declared m in
         (λ q. let f = there (sym at ∙ q) in grind arith, λ q. at ∙ back (grind arith))
-
--- names that stay in scope
-pub kept_trans : (a b c : Scope) → take (length a) b ≡ a → take (length b) c ≡ b → take (length a) c ≡ a
-kept_trans [] b c p q = refl
-kept_trans (x ∷ a) [] c p q = grind arith
-kept_trans (x ∷ a) (y ∷ b) [] p q = grind arith
-kept_trans (x ∷ a) (y ∷ b) (z ∷ c) p q = let r = kept_trans a b c (grind arith) (grind arith) in grind arith

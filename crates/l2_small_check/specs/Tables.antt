@@ -1,5 +1,5 @@
 -- What the table of names holds, and how its places find the entries.
-use Rattle.std.specs.Prelude.{◌≡◌, ℕ, ◌+◌, ◌<◌, ◌↔◌, false, List, length, slice_index_or}
+use Rattle.std.specs.Prelude.{◌≡◌, ℕ, ◌+◌, ◌<◌, ◌↔◌, false, List, length, take, slice_index_or}
 use Rattle.l2_syntax.specs.declared.program.ObjectInfo.{ObjectInfo}
 use Rattle.l2_small_check.specs.Elaboration.{Scope, Found, Elaborated, is_declared}
 use Rattle.l2_small_check.specs.declared.entry.Entry.{Entry}
@@ -11,6 +11,10 @@ pub record TableValue : Type 0 where
 -- what an item became, with the table behind it
 abbrev pub elaborated : {A : Type 0} → A → TableValue → Elaborated A
 elaborated t table = record { tree = t; scope = table.scope; found = table.found }
+
+-- names that are in scope stay so, and others may stand behind them
+abbrev pub Keeps : Scope → Scope → Type 0
+Keeps old new = take (length old) new ≡ old
 
 abbrev pub place_of : List ℕ → ℕ → ℕ
 place_of places n = slice_index_or places n 0

@@ -1,9 +1,9 @@
 // Statements.
-ghost use Rattle.std.specs.Prelude.{◌≡◌, Some, None, length, take, map, option_map, IfOk, IsErrOf};
+ghost use Rattle.std.specs.Prelude.{◌≡◌, Some, None, map, option_map, IfOk, IsErrOf};
 ghost use Rattle.l2_syntax.specs.Raw.{none, Initialise, expr_tree, stmt_tree, stmts_onto};
 ghost use Rattle.l2_syntax.specs.Checked.{checked_tree};
 ghost use Rattle.l2_small_check.specs.Elaboration.{item, items, within, made, block};
-ghost use Rattle.l2_small_check.specs.Tables.{elaborated};
+ghost use Rattle.l2_small_check.specs.Tables.{elaborated, Keeps};
 
 use crate::error::CheckError;
 use crate::expressions::typed;
@@ -13,10 +13,11 @@ use l2_syntax::{Checked, Expr, Place, Stmt};
 use std::alloc::Global;
 
 /// `int NAME = e;`.
-#[tactic(auto, using(crate::proofs::Steps::steps))]
+#[tactic(auto, using(crate::proofs::Steps::steps, crate::proofs::Kept::kept))]
 fn initialise(alloc: Global, table: &mut Table, name: u32, place: Place, e: &Expr) -> Result<Checked, CheckError>
     ensures ok { IfOk result (λ t. item table.old.scope table.old.found (Initialise name place (expr_tree e.now)) ≡ Some (elaborated (checked_tree t) table.new)) }
     ensures not_small { IsErrOf result CheckError.NotSmall → item table.old.scope table.old.found (Initialise name place (expr_tree e.now)) ≡ None }
+    ensures keeps { IfOk result (λ t. Keeps table.old.scope table.new.scope) }
 {
     let object = table.declare(alloc, name, place)?;
     let value = typed(alloc, table, e)?;
@@ -25,10 +26,11 @@ fn initialise(alloc: Global, table: &mut Table, name: u32, place: Place, e: &Exp
 
 /// What a statement becomes.
 #[cycle(statements)]
-#[tactic(auto, using(crate::proofs::Steps::steps))]
+#[tactic(auto, using(crate::proofs::Steps::steps, crate::proofs::Kept::kept))]
 fn item(alloc: Global, table: &mut Table, s: &Stmt) -> Result<Checked, CheckError>
     ensures ok { IfOk result (λ t. item table.old.scope table.old.found (stmt_tree s.now) ≡ Some (elaborated (checked_tree t) table.new)) }
     ensures not_small { IsErrOf result CheckError.NotSmall → item table.old.scope table.old.found (stmt_tree s.now) ≡ None }
+    ensures keeps { IfOk result (λ t. Keeps table.old.scope table.new.scope) }
 {
     match s {
         Stmt::Block(all) => block(alloc, table, all),
@@ -75,10 +77,11 @@ fn item(alloc: Global, table: &mut Table, s: &Stmt) -> Result<Checked, CheckErro
 
 /// What a statement becomes whose names go out of scope at its end.
 #[cycle(statements)]
-#[tactic(auto, using(crate::proofs::Steps::steps))]
+#[tactic(auto, using(crate::proofs::Steps::steps, crate::proofs::Kept::kept))]
 fn within(alloc: Global, table: &mut Table, s: &Stmt) -> Result<Checked, CheckError>
     ensures ok { IfOk result (λ t. within table.old.scope (item table.old.scope table.old.found (stmt_tree s.now)) ≡ Some (elaborated (checked_tree t) table.new)) }
     ensures not_small { IsErrOf result CheckError.NotSmall → item table.old.scope table.old.found (stmt_tree s.now) ≡ None }
+    ensures scope { IfOk result (λ t. table.new.scope ≡ table.old.scope) }
 {
     let count = table.in_scope();
     let body = item(alloc, table, s)?;
@@ -88,10 +91,11 @@ fn within(alloc: Global, table: &mut Table, s: &Stmt) -> Result<Checked, CheckEr
 
 /// What a block becomes. Its names go out of scope at its end.
 #[cycle(statements)]
-#[tactic(auto, using(crate::proofs::Steps::steps))]
+#[tactic(auto, using(crate::proofs::Steps::steps, crate::proofs::Kept::kept))]
 fn block(alloc: Global, table: &mut Table, all: &[Stmt]) -> Result<Checked, CheckError>
     ensures ok { IfOk result (λ t. option_map (made block) (within table.old.scope (items table.old.scope table.old.found (stmts_onto none all.now))) ≡ Some (elaborated (checked_tree t) table.new)) }
     ensures not_small { IsErrOf result CheckError.NotSmall → items table.old.scope table.old.found (stmts_onto none all.now) ≡ None }
+    ensures scope { IfOk result (λ t. table.new.scope ≡ table.old.scope) }
 {
     let count = table.in_scope();
     let body = items(alloc, table, all)?;
@@ -101,10 +105,11 @@ fn block(alloc: Global, table: &mut Table, all: &[Stmt]) -> Result<Checked, Chec
 
 /// What statements become, one after another.
 #[cycle(statements)]
-#[tactic(auto, using(crate::proofs::Steps::steps))]
+#[tactic(auto, using(crate::proofs::Steps::steps, crate::proofs::Kept::kept))]
 pub fn items(alloc: Global, table: &mut Table, all: &[Stmt]) -> Result<Vec<Checked>, CheckError>
     ensures ok { IfOk result (λ out. items table.old.scope table.old.found (stmts_onto none all.now) ≡ Some (elaborated (map checked_tree out.items) table.new)) }
     ensures not_small { IsErrOf result CheckError.NotSmall → items table.old.scope table.old.found (stmts_onto none all.now) ≡ None }
+    ensures keeps { IfOk result (λ t. Keeps table.old.scope table.new.scope) }
 {
     let mut out = Vec::new(alloc);
     for s in all {

@@ -2,7 +2,7 @@
 ghost use Rattle.std.specs.Prelude.{◌≡◌, ◌<◌, ℕ, [], None, Some, length, take, IfOk, IsErrOf, IfErr};
 ghost use Rattle.l2_small_check.specs.declared.error.CheckError.TheVariants.{NoMemory};
 ghost use Rattle.l2_small_check.specs.Elaboration.{lookup, declare, variable, with_loop, with_check, nothing_found, loop_number, check_number};
-ghost use Rattle.l2_small_check.specs.Tables.{place_of, elaborated, ArePlaced};
+ghost use Rattle.l2_small_check.specs.Tables.{place_of, elaborated, Keeps, ArePlaced};
 ghost use Rattle.l2_small_check.specs.Founds.{found_of};
 
 use crate::entry::Entry;
@@ -70,9 +70,11 @@ impl Table {
     }
 
     /// The number of the object that a name stands for from here on.
+    #[tactic(auto, using(crate::proofs::Kept::kept))]
     pub fn declare(&mut self, alloc: Global, name: u32, place: Place) -> Result<u32, CheckError>
         ensures ok { IfOk result (λ n. declare self.old.scope self.old.found name place ≡ Some (elaborated n self.new)) }
         ensures not_small { IsErrOf result CheckError.NotSmall → declare self.old.scope self.old.found name place ≡ None }
+        ensures keeps { IfOk result (λ n. Keeps self.old.scope self.new.scope) }
     {
         if place_of(&self.places, name) != 0 || self.objects.len() >= 65536 {
             return Err(CheckError::NotSmall);
