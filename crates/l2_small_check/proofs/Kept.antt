@@ -1,7 +1,6 @@
 -- Names that stay in scope.
-use Rattle.std.proofs.Common.{◌≡◌, List, [], ◌∷◌, ◌++◌, length, take, refl, arith}
+use Rattle.std.proofs.Common.{[], ◌∷◌, ◌++◌, refl, arith}
 use Rattle.std.proofs.Math.Seq.{take-append_seam, take-length}
-use Rattle.l2_small_check.specs.declared.entry.Entry.{Entry}
 use Rattle.l2_small_check.specs.Elaboration.{Scope}
 use Rattle.l2_small_check.specs.Tables.{Keeps}
 

@@ -1,6 +1,5 @@
 -- Where places find the entries of names.
-use Rattle.std.proofs.Common.{◌≡◌, ◌≢◌, ℕ, zero, suc, ◌+◌, ◌-◌, ◌<◌, ◌≤◌, ◌==◌, true, false, List, [], ◌∷◌, length, get_or, Option, Some, None, refl, sym, ap, ◌∙◌, arith}
-use Rattle.l2_small_check.specs.declared.entry.Entry.{Entry}
+use Rattle.std.proofs.Common.{◌≡◌, ◌≢◌, ℕ, zero, suc, ◌<◌, [], ◌∷◌, length, Some, None, refl, arith}
 use Rattle.l2_small_check.specs.Elaboration.{Scope, lookup}
 use Rattle.l2_small_check.specs.Tables.{entry_at}
 

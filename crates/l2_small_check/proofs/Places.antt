@@ -1,12 +1,11 @@
 -- The places of names, as they are written.
-use Rattle.std.proofs.Common.{◌≡◌, ◌≢◌, ℕ, zero, suc, ◌+◌, ◌<◌, ◌≤◌, ◌↔◌, Bool, true, false, List, [], ◌∷◌, ◌++◌, length, get_or, set, refl, sym, ap, ◌∙◌, subst, arith}
+use Rattle.std.proofs.Common.{◌≡◌, ◌≢◌, ℕ, zero, suc, ◌+◌, ◌<◌, ◌↔◌, false, List, [], ◌∷◌, ◌++◌, length, refl, sym, ap, ◌∙◌, arith}
 use Rattle.std.specs.Prelude.{slice_set, ◌||◌, ◌==◌}
 use Rattle.std.proofs.Math.ListN.{get_or-append}
 use Rattle.std.proofs.Math.Seq.{get_or-append_seam}
 use Rattle.std.proofs.lemmas.List.{get_or-set_same, get_or-set_other, length-append}
 use native.Mathlib.Decide.{ℕ_discrete, dec_lt}
 use Rattle.l2_syntax.specs.declared.program.ObjectInfo.{ObjectInfo}
-use Rattle.l2_small_check.specs.declared.entry.Entry.{Entry}
 use Rattle.l2_small_check.specs.Elaboration.{Scope, is_declared}
 use Rattle.l2_small_check.specs.Tables.{place_of, entry_at, ArePlaced, AreDeclared}
 

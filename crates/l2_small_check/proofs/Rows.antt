@@ -3,8 +3,8 @@ use Rattle.std.proofs.Common.{◌≡◌, ℕ, zero, suc, ◌<◌, length, drop, 
 use Rattle.std.specs.Prelude.{option_map, ◌++◌}
 use Rattle.l2_syntax.specs.declared.raw.Stmt.{Stmt}
 use Rattle.l2_syntax.specs.declared.checked.Checked.{Checked}
-use Rattle.l2_syntax.specs.Raw.{StmtTree, StmtTrees, none, also, stmt_tree, stmts_onto}
-use Rattle.l2_syntax.specs.Checked.{CheckedTree, CheckedTrees, more, checked_tree, checked_trees}
+use Rattle.l2_syntax.specs.Raw.{StmtTree, StmtTrees, also, stmt_tree, stmts_onto}
+use Rattle.l2_syntax.specs.Checked.{CheckedTree, more, checked_tree, checked_trees}
 use Rattle.l2_small_check.specs.Elaboration.{Scope, Found, Elaborated, and_then, made, item, items, chain}
 
 -- one statement more

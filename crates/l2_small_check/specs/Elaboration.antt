@@ -1,6 +1,6 @@
 -- The program of a unit of the small form: names stand for objects, and objects, loops and checks are numbered from 1 in the order of the text.
 -- A unit has none where a name is declared a second time, is used where it isn't in scope, or where there are too many cells.
-use Rattle.std.specs.Prelude.{◌≡◌, ℕ, suc, ◌+◌, ◌<◌, ◌==◌, ℤ, pos, Bool, true, false, ◌||◌, if◌then◌else◌, nat_lt, List, [], ◌∷◌, ◌++◌, length, codes, Option, Some, None, option_map}
+use Rattle.std.specs.Prelude.{ℕ, ◌+◌, ◌==◌, Bool, false, ◌||◌, if◌then◌else◌, nat_lt, List, [], ◌∷◌, ◌++◌, length, codes, Option, Some, None, option_map}
 use Rattle.l2_bits.specs.Types.{int_type}
 use Rattle.l2_syntax.specs.declared.place.Place.{Place}
 use Rattle.l2_syntax.specs.declared.program.CellType.TheVariants.{Integer}
@@ -93,7 +93,8 @@ declare scope found n p =
     else Some (record {
       tree = object_number found;
       scope = scope ++ record { name = n; object = object_number found } ∷ [];
-      found = record found { objects = found.objects ++ variable n p ∷ [] } })
+      found = record found { objects = found.objects ++ variable n p ∷ [] };
+    })
 
 abbrev pub with_loop : Found → Place → Found
 with_loop found p = record found { loops = found.loops ++ record { place = p; function = 1; mods = []; vars = [] } ∷ [] }

@@ -8,9 +8,10 @@ mod found;
 mod make;
 mod statements;
 mod table;
+#[cfg(test)]
+mod tests;
 mod unit;
 
-pub use error::CheckError;
-pub use found::Found;
-pub use unit::check;
 pub use entry::Entry;
+pub use error::CheckError;
+pub use unit::check;

@@ -18,11 +18,21 @@ pub fn unary(alloc: Global, operator: UnaryOperator, operand: Typed) -> Result<T
 }
 
 /// An operator of `int` on its operands.
-pub fn binary(alloc: Global, operator: BinaryOperator, left: Typed, right: Typed) -> Result<Typed, CheckError>
+pub fn binary(
+    alloc: Global,
+    operator: BinaryOperator,
+    left: Typed,
+    right: Typed,
+) -> Result<Typed, CheckError>
     ensures ok { IfOk result (λ t. typed_tree t ≡ Binary operator int_type (typed_tree left) (typed_tree right)) }
     ensures err { IfErr result (λ f. f ≡ NoMemory) }
 {
-    Ok(Typed::Binary(operator, Ty::INT, Box::new(alloc, left)?, Box::new(alloc, right)?))
+    Ok(Typed::Binary(
+        operator,
+        Ty::INT,
+        Box::new(alloc, left)?,
+        Box::new(alloc, right)?,
+    ))
 }
 
 /// `object = value;`.
@@ -48,14 +58,24 @@ pub fn if_then(alloc: Global, test: Typed, body: Checked) -> Result<Checked, Che
     Ok(Checked::If(test, Box::new(alloc, body)?))
 }
 
-pub fn if_else(alloc: Global, test: Typed, body: Checked, other: Checked) -> Result<Checked, CheckError>
+pub fn if_else(
+    alloc: Global,
+    test: Typed,
+    body: Checked,
+    other: Checked,
+) -> Result<Checked, CheckError>
     ensures ok { IfOk result (λ s. checked_tree s ≡ IfElse (typed_tree test) (checked_tree body) (checked_tree other)) }
     ensures err { IfErr result (λ f. f ≡ NoMemory) }
 {
     Ok(Checked::IfElse(test, Box::new(alloc, body)?, Box::new(alloc, other)?))
 }
 
-pub fn while_loop(alloc: Global, number: u32, test: Typed, body: Checked) -> Result<Checked, CheckError>
+pub fn while_loop(
+    alloc: Global,
+    number: u32,
+    test: Typed,
+    body: Checked,
+) -> Result<Checked, CheckError>
     ensures ok { IfOk result (λ s. checked_tree s ≡ While number (typed_tree test) (checked_tree body)) }
     ensures err { IfErr result (λ f. f ≡ NoMemory) }
 {

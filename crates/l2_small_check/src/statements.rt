@@ -14,14 +14,20 @@ use std::alloc::Global;
 
 /// `int NAME = e;`.
 #[tactic(auto, using(crate::proofs::Steps::steps, crate::proofs::Kept::kept))]
-fn initialise(alloc: Global, table: &mut Table, name: u32, place: Place, e: &Expr) -> Result<Checked, CheckError>
+fn initialise(
+    alloc: Global,
+    table: &mut Table,
+    name: u32,
+    place: Place,
+    e: &Expr,
+) -> Result<Checked, CheckError>
     ensures ok { IfOk result (λ t. item table.old.scope table.old.found (Initialise name place (expr_tree e.now)) ≡ Some (elaborated (checked_tree t) table.new)) }
     ensures not_small { IsErrOf result CheckError.NotSmall → item table.old.scope table.old.found (Initialise name place (expr_tree e.now)) ≡ None }
     ensures keeps { IfOk result (λ t. Keeps table.old.scope table.new.scope) }
 {
     let object = table.declare(alloc, name, place)?;
-    let value = typed(alloc, table, e)?;
-    Ok(Checked::Initialise(object, value))
+    let start = typed(alloc, table, e)?;
+    Ok(Checked::Initialise(object, start))
 }
 
 /// What a statement becomes.
@@ -53,9 +59,9 @@ fn item(alloc: Global, table: &mut Table, s: &Stmt) -> Result<Checked, CheckErro
         }
         Stmt::IfElse(e, s, z) => {
             let test = typed(alloc, table, e)?;
-            let body = within(alloc, table, s)?;
+            let then = within(alloc, table, s)?;
             let other = within(alloc, table, z)?;
-            if_else(alloc, test, body, other)
+            if_else(alloc, test, then, other)
         }
         Stmt::While(place, e, s) => {
             let test = typed(alloc, table, e)?;
@@ -97,9 +103,9 @@ fn block(alloc: Global, table: &mut Table, all: &[Stmt]) -> Result<Checked, Chec
     ensures not_small { IsErrOf result CheckError.NotSmall → items table.old.scope table.old.found (stmts_onto none all.now) ≡ None }
     ensures scope { IfOk result (λ t. table.new.scope ≡ table.old.scope) }
 {
-    let count = table.in_scope();
+    let outside = table.in_scope();
     let body = items(alloc, table, all)?;
-    table.leave(count);
+    table.leave(outside);
     Ok(Checked::Block(body))
 }
 

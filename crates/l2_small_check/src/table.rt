@@ -95,7 +95,12 @@ impl Table {
         ensures err { IfErr result (λ f. f ≡ NoMemory) }
     {
         let no_objects = List::new(Vec::new(alloc));
-        self.loops.push(LoopInfo { place, function: 1, mods: no_objects, vars: List::new(Vec::new(alloc)) })?;
+        self.loops.push(LoopInfo {
+            place,
+            function: 1,
+            mods: no_objects,
+            vars: List::new(Vec::new(alloc)),
+        })?;
         number(self.loops.len())
     }
 
@@ -105,7 +110,10 @@ impl Table {
         ensures ok { IfOk result (λ n. self.new ≡ record self.old { found = with_check self.old.found place }) }
         ensures err { IfErr result (λ f. f ≡ NoMemory) }
     {
-        self.checks.push(CheckInfo { place, kind: Kind::Assertion })?;
+        self.checks.push(CheckInfo {
+            place,
+            kind: Kind::Assertion,
+        })?;
         number(self.checks.len())
     }
 
@@ -113,8 +121,17 @@ impl Table {
     pub fn into_found(self) -> Found
         ensures { found_of result ≡ self.found }
     {
-        let Table { objects, loops, checks, .. } = self;
-        Found { objects: List::new(objects), loops: List::new(loops), checks: List::new(checks) }
+        let Table {
+            objects,
+            loops,
+            checks,
+            ..
+        } = self;
+        Found {
+            objects: List::new(objects),
+            loops: List::new(loops),
+            checks: List::new(checks),
+        }
     }
 }
 
@@ -135,7 +152,13 @@ fn variable(alloc: Global, name: u32, place: Place) -> Result<ObjectInfo, CheckE
     ensures err { IfErr result (λ f. f ≡ NoMemory) }
 {
     let cells = List::new([CellType::Integer(Ty::INT)].to_vec(alloc)?);
-    Ok(ObjectInfo { name, place, cells, is_static: false, function: 1 })
+    Ok(ObjectInfo {
+        name,
+        place,
+        cells,
+        is_static: false,
+        function: 1,
+    })
 }
 
 /// Makes room for a name's place.
@@ -156,11 +179,7 @@ fn place_of(places: &[usize], name: u32) -> usize
     ensures { result ≡ place_of places.now name }
 {
     let n = name as usize;
-    if n < places.len() {
-        places[n]
-    } else {
-        0
-    }
+    if n < places.len() { places[n] } else { 0 }
 }
 
 /// The object that a name stands for.

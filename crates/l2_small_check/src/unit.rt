@@ -23,7 +23,11 @@ pub fn check(alloc: Global, unit: Unit) -> Result<Program, CheckError>
     ensures ok { IfOk result (λ p. program_of (unit_tree unit) ≡ Some (program_tree p)) }
     ensures not_small { IsErrOf result CheckError.NotSmall → program_of (unit_tree unit) ≡ None }
 {
-    let Unit { main, items: all, names } = unit;
+    let Unit {
+        main,
+        items: all,
+        names,
+    } = unit;
     let mut table = Table::new(alloc);
     let body = items(alloc, &mut table, &all)?;
     program_with(alloc, main, names, table.into_found(), body)
@@ -34,11 +38,19 @@ fn main_name(alloc: Global) -> Result<Name, CheckError>
     ensures ok { IfOk result (λ n. n ≡ main_name) }
     ensures err { IfErr result (λ f. f ≡ NoMemory) }
 {
-    Ok(Name { bytes: List::new(b"main".to_vec(alloc)?) })
+    Ok(Name {
+        bytes: List::new(b"main".to_vec(alloc)?),
+    })
 }
 
 /// A program by its parts.
-fn program_with(alloc: Global, main: Place, names: List<Name>, found: Found, body: Vec<Checked>) -> Result<Program, CheckError>
+fn program_with(
+    alloc: Global,
+    main: Place,
+    names: List<Name>,
+    found: Found,
+    body: Vec<Checked>,
+) -> Result<Program, CheckError>
     ensures ok { IfOk result (λ p. program_with (record { main = main; items = none; names = names }) (stays [] (found_of found) (map checked_tree body.items)) ≡ program_tree p) }
     ensures err { IfErr result (λ f. f ≡ NoMemory) }
 {
@@ -60,7 +72,12 @@ fn program_with(alloc: Global, main: Place, names: List<Name>, found: Found, bod
 
 /// The one function.
 #[tactic(auto, using(crate::proofs::Steps::steps))]
-fn main_function(alloc: Global, name: u32, place: Place, body: Vec<Checked>) -> Result<FunctionInfo, CheckError>
+fn main_function(
+    alloc: Global,
+    name: u32,
+    place: Place,
+    body: Vec<Checked>,
+) -> Result<FunctionInfo, CheckError>
     ensures ok { IfOk result (λ f. function_tree f ≡ record { name = name; place = place; parameters = []; result = Integer int_type ∷ []; body = block (map checked_tree body.items) }) }
     ensures err { IfErr result (λ f. f ≡ NoMemory) }
 {

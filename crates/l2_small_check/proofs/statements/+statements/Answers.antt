@@ -1,4 +1,4 @@
-use Rattle.std.proofs.Common.{◌≡◌, ◌+◌, ◌*◌, ◌<◌, [], Some, arith, sym, refl}
+use Rattle.std.proofs.Common.{arith, sym}
 use Rattle.l2_syntax.specs.Raw.{none}
 use Rattle.l2_small_check.proofs.Kept.{kept_all}
 use Rattle.l2_small_check.proofs.Rows.{items_onto, item_fails}

@@ -1,4 +1,4 @@
-use Rattle.std.proofs.Common.{◌≡◌, ◌≢◌, ◌<◌, ◌+◌, ◌-◌, arith, sym, ap, ◌∙◌}
+use Rattle.std.proofs.Common.{◌≡◌, ◌-◌, arith, sym, ap, ◌∙◌}
 use Rattle.l2_small_check.specs.Tables.{place_of, entry_at}
 use Rattle.l2_small_check.proofs.Lookups.{lookup_none, lookup_some}
 use Rattle.l2_small_check.proofs.table.entry_of.Goals as goal

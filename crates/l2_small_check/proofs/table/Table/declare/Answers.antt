@@ -1,4 +1,4 @@
-use Rattle.std.proofs.Common.{◌≡◌, ◌<◌, ◌+◌, ◌≤◌, List, [], ◌∷◌, ◌++◌, length, sym, subst, arith}
+use Rattle.std.proofs.Common.{◌≡◌, ◌<◌, ◌+◌, ◌≤◌, [], ◌∷◌, ◌++◌, length, sym, subst, arith}
 use Rattle.std.specs.Prelude.{slice_set}
 use Rattle.l2_small_check.specs.Tables.{place_of, ArePlaced, AreDeclared}
 use Rattle.l2_small_check.proofs.Places.{placed_still, placed_more, declared_more}
@@ -12,12 +12,13 @@ invariant_of-self-in_err-push-2 c =
     let named : c.in_ok-variable.variable.name ≡ c.args.name = grind arith in
     let few : length c.push.new.self.items ≤ 65536 = grind arith in
     let same = c.grow.ensures.same in
-    let room : c.args.name < length c.grow.new.places.items = c.in_ok-grow.ensures.room in
-    ( subst (λ xs. ArePlaced xs (slice_set c.grow.new.places.items c.args.name (c.len-2.result + 1))) (sym entries)
-          (placed_still _ _ _ _ same new room _ c.self.invariant.0)
-    , subst (λ xs. AreDeclared xs (slice_set c.grow.new.places.items c.args.name (c.len-2.result + 1))) (sym objects)
-          (declared_more _ _ _ _ same new room _ _ named (omega arith) c.self.invariant.1)
-    , few)
+    let room : c.args.name < length c.grow.new.places.items = c.in_ok-grow.ensures.room in (
+      subst (λ xs. ArePlaced xs (slice_set c.grow.new.places.items c.args.name (c.len-2.result + 1))) (sym entries)
+          (placed_still _ _ _ _ same new room _ c.self.invariant.0),
+      subst (λ xs. AreDeclared xs (slice_set c.grow.new.places.items c.args.name (c.len-2.result + 1))) (sym objects)
+          (declared_more _ _ _ _ same new room _ _ named (omega arith) c.self.invariant.1),
+      few,
+    )
 
 pub invariant_of-self-2 : goal.invariant_of-self-2
 invariant_of-self-2 c =
@@ -27,9 +28,10 @@ invariant_of-self-2 c =
     let named : c.in_ok-variable.variable.name ≡ c.args.name = grind arith in
     let few : length c.push.new.self.items ≤ 65536 = grind arith in
     let same = c.grow.ensures.same in
-    let room : c.args.name < length c.grow.new.places.items = c.in_ok-grow.ensures.room in
-    ( subst (λ xs. ArePlaced xs (slice_set c.grow.new.places.items c.args.name (c.len-2.result + 1))) (sym entries)
-          (placed_more _ _ _ _ same new room _ _ (grind arith) c.self.invariant.0)
-    , subst (λ xs. AreDeclared xs (slice_set c.grow.new.places.items c.args.name (c.len-2.result + 1))) (sym objects)
-          (declared_more _ _ _ _ same new room _ _ named (omega arith) c.self.invariant.1)
-    , few)
+    let room : c.args.name < length c.grow.new.places.items = c.in_ok-grow.ensures.room in (
+      subst (λ xs. ArePlaced xs (slice_set c.grow.new.places.items c.args.name (c.len-2.result + 1))) (sym entries)
+          (placed_more _ _ _ _ same new room _ _ (grind arith) c.self.invariant.0),
+      subst (λ xs. AreDeclared xs (slice_set c.grow.new.places.items c.args.name (c.len-2.result + 1))) (sym objects)
+          (declared_more _ _ _ _ same new room _ _ named (omega arith) c.self.invariant.1),
+      few,
+    )
