@@ -5,6 +5,7 @@ mod entry;
 mod error;
 mod expressions;
 mod found;
+mod laws;
 mod make;
 mod statements;
 mod table;
@@ -14,4 +15,5 @@ mod unit;
 
 pub use entry::Entry;
 pub use error::CheckError;
+pub use laws::programs_say_what_texts_say;
 pub use unit::check;
