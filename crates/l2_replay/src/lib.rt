@@ -8,6 +8,8 @@ mod operators;
 mod replay_program;
 mod start;
 mod statements;
+#[cfg(test)]
+mod tests;
 
 pub use answer::Replay;
 pub use replay_program::replay;
