@@ -1,3 +1,5 @@
 pub mod Fed
 pub mod Kept
 pub mod Reading
+pub mod Rows
+pub mod Steps

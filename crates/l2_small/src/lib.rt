@@ -2,6 +2,7 @@
 #![tactic(auto)]
 
 mod error;
+mod make;
 mod stack;
 mod step;
 mod token;

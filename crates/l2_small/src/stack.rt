@@ -31,36 +31,53 @@ pub enum Stack {
     Block(Owner, Vec<Stmt>, Box<Stack>),
 }
 
-/// What comes next.
+/// What comes next of `int main ( void ) {`, with the place of `main` once it was read.
+#[derive(Clone, Copy, Drop)]
+pub enum Heading {
+    Int,
+    Main,
+    Open(Place),
+    Void(Place),
+    Close(Place),
+    Body(Place),
+}
+
+/// What comes next in a statement that was begun.
 #[derive(Drop)]
-pub enum Expected {
-    Start,
-    MainName,
-    MainOpen(Place),
-    MainVoid(Place),
-    MainClose(Place),
-    MainBody(Place),
-    /// An item or `}`.
-    Item,
+pub enum Part {
     /// The name behind `int`.
     Declared,
-    /// `=` or `;`.
+    /// The `=` or `;` behind a declared name.
     DeclaredName(u32, Place),
-    /// `=`.
+    /// The `=` of an assignment.
     Assigned(u32, Place),
-    IfOpen,
-    WhileOpen(Place),
-    AssertOpen(Place),
+    /// The `(` of an `if`.
+    If,
+    /// The `(` of a `while`.
+    While(Place),
+    /// The `(` of an assertion.
+    Assert(Place),
     /// The `;` of an assertion.
     Asserted(Place, Expr),
     /// The `{` of a body.
-    BodyOpen(Owner),
+    Body(Owner),
+}
+
+/// What comes next.
+#[derive(Drop)]
+pub enum Expected {
+    Heading(Heading),
+    Part(Part),
+    /// An item or `}`.
+    Item,
     /// `else`, an item or `}`.
     ThenDone(Expr, Stmt),
     Operand,
     /// An operator, or what ends the expression.
     Operator(Expr),
+    /// The `(` of a choice.
     ChoiceOpen(Place),
+    /// The `)` of a choice.
     ChoiceClose(Place),
     /// Nothing more.
     Done(Place, Vec<Stmt>),
