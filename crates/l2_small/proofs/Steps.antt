@@ -2,8 +2,8 @@
 use Rattle.std.proofs.Common.{◌≡◌, List, Result, Ok, Err, refl}
 use Rattle.std.specs.Prelude.{IfOk, IfErr}
 use Rattle.l2_syntax.specs.Raw.{ExprTree, StmtTree, If}
-use Rattle.l2_small.specs.declared.token.Token.{Token}
-use Rattle.l2_small.specs.declared.token.Token.TheVariants as tok
+use Rattle.l2_small_lex.specs.declared.token.Token.{Token}
+use Rattle.l2_small_lex.specs.declared.token.Token.TheVariants as tok
 use Rattle.l2_small.specs.Reader.{Frame, added, at_item, at_then_done}
 
 -- a tail call

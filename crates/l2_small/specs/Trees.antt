@@ -5,8 +5,8 @@ use Rattle.l2_syntax.specs.declared.raw.UnaryOperator.TheVariants.{Negate, Not}
 use Rattle.l2_syntax.specs.declared.raw.BinaryOperator.{BinaryOperator}
 use Rattle.l2_syntax.specs.declared.raw.BinaryOperator.TheVariants as op
 use Rattle.l2_syntax.specs.Raw.{ExprTree, Name, Number, Choice, Parenthesised, Unary, Binary, StmtTree, Block, Declare, Initialise, Assign, If, IfElse, While, Assert, Return, StmtTrees, none, also, UnitTree}
-use Rattle.l2_small.specs.declared.token.Token.{Token}
-use Rattle.l2_small.specs.declared.token.Token.TheVariants as tok
+use Rattle.l2_small_lex.specs.declared.token.Token.{Token}
+use Rattle.l2_small_lex.specs.declared.token.Token.TheVariants as tok
 
 abbrev pub unary_token : UnaryOperator → Token
 unary_token Negate = tok.Minus

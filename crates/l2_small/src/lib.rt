@@ -3,9 +3,10 @@
 
 mod error;
 mod make;
+mod parse;
 mod stack;
 mod step;
-mod token;
+
 
 pub use error::SmallError;
-pub use token::Token;
+pub use l2_small_lex::Token;

@@ -8,7 +8,7 @@ ghost use Rattle.l2_small.specs.States.{frames_of, heading_of, part_of, point_of
 use crate::error::SmallError;
 use crate::make::{binary, block_statement, if_else, if_then, parenthesised, unary, while_loop, with_binary, with_block, with_holder, with_item, with_unary};
 use crate::stack::{Expected, Heading, Holder, Owner, Part, Stack};
-use crate::token::Token;
+use l2_small_lex::Token;
 use l2_syntax::{BinaryOperator, Expr, Place, Stmt, UnaryOperator};
 use std::alloc::Global;
 

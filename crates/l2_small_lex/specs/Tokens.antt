@@ -25,9 +25,13 @@ value_of digits = fold (λ v d. v * 10 + (d - 48)) 0 digits
 abbrev pub is_constant : List ℕ → Bool
 is_constant w = leb 1 (length w) && leb (length w) 10 && list_all is_digit w && (length w == 1 || not (begins_with (λ b. b == 48) w)) && leb (value_of w) 2147483647
 
--- the token of a piece that is no name
-abbrev pub fixed_token : List ℕ → Place → Token
-fixed_token w p =
+-- a constant, or no token of the form
+abbrev pub constant_token : List ℕ → Token
+constant_token w = cond (is_constant w) (tok.Number (value_of w)) tok.Other
+
+-- the token of a word that is no name, or another one
+abbrev pub word_token : List ℕ → Place → Token → Token
+word_token w p other =
     cond (bytes_eq w (codes "int")) tok.Int
     (cond (bytes_eq w (codes "void")) tok.Void
     (cond (bytes_eq w (codes "if")) tok.If
@@ -35,24 +39,35 @@ fixed_token w p =
     (cond (bytes_eq w (codes "while")) (tok.While p)
     (cond (bytes_eq w (codes "return")) tok.Return
     (cond (bytes_eq w (codes "assert")) (tok.Assert p)
-    (cond (bytes_eq w (codes "__VERIFIER_nondet_int")) (tok.Choice p)
-    (cond (bytes_eq w (codes "(")) tok.OpenParenthesis
+    (cond (bytes_eq w (codes "__VERIFIER_nondet_int")) (tok.Choice p) other)))))))
+
+-- the token of a bracket or the like, or another one
+abbrev pub bracket_token : List ℕ → Token → Token
+bracket_token w other =
+    cond (bytes_eq w (codes "(")) tok.OpenParenthesis
     (cond (bytes_eq w (codes ")")) tok.CloseParenthesis
     (cond (bytes_eq w (codes "{")) tok.OpenBrace
     (cond (bytes_eq w (codes "}")) tok.CloseBrace
     (cond (bytes_eq w (codes ";")) tok.Semicolon
     (cond (bytes_eq w (codes "=")) tok.Equal
-    (cond (bytes_eq w (codes "*")) tok.Star
+    (cond (bytes_eq w (codes "!")) tok.Exclamation other))))))
+
+-- the token of a binary operator, or another one
+abbrev pub operator_token : List ℕ → Token → Token
+operator_token w other =
+    cond (bytes_eq w (codes "*")) tok.Star
     (cond (bytes_eq w (codes "+")) tok.Plus
     (cond (bytes_eq w (codes "-")) tok.Minus
-    (cond (bytes_eq w (codes "!")) tok.Exclamation
     (cond (bytes_eq w (codes "<")) tok.Less
     (cond (bytes_eq w (codes "<=")) tok.LessEqual
     (cond (bytes_eq w (codes ">")) tok.Greater
     (cond (bytes_eq w (codes ">=")) tok.GreaterEqual
     (cond (bytes_eq w (codes "==")) tok.EqualEqual
-    (cond (bytes_eq w (codes "!=")) tok.NotEqual
-    (cond (is_constant w) (tok.Number (value_of w)) tok.Other))))))))))))))))))))))))
+    (cond (bytes_eq w (codes "!=")) tok.NotEqual other))))))))
+
+-- the token of a piece that is no name
+abbrev pub fixed_token : List ℕ → Place → Token
+fixed_token w p = word_token w p (bracket_token w (operator_token w (constant_token w)))
 
 -- the number of a name: its place among the names, or behind them
 abbrev pub number_of : List (List ℕ) → List ℕ → ℕ

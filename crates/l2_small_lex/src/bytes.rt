@@ -1,5 +1,5 @@
 // Classes of bytes, and runs of them.
-ghost use Rattle.std.specs.Prelude.{◌≡◌, ◌<◌, length};
+ghost use Rattle.std.specs.Prelude.{◌≡◌, ◌≤◌, length};
 ghost use Rattle.std.specs.List.{prefix_len};
 ghost use Rattle.l2_small_lex.specs.Bytes.{is_space, is_digit, is_letter, is_word_byte, is_number_byte};
 ghost use Rattle.l2_small_lex.specs.Cutting.{piece_length};
@@ -35,14 +35,16 @@ fn is_number_byte(byte: u8) -> bool
     is_word_byte(byte) || byte == b'.'
 }
 
-fn word_length(text: &[u8]) -> usize
-    ensures { result ≡ prefix_len is_word_byte text.now }
+pub fn word_length(text: &[u8]) -> usize
+    ensures value { result ≡ prefix_len is_word_byte text.now }
+    ensures within { result ≤ length text.now }
 {
     text.iter().take_while(|byte| is_word_byte(**byte)).count()
 }
 
-fn number_length(text: &[u8]) -> usize
-    ensures { result ≡ prefix_len is_number_byte text.now }
+pub fn number_length(text: &[u8]) -> usize
+    ensures value { result ≡ prefix_len is_number_byte text.now }
+    ensures within { result ≤ length text.now }
 {
     text.iter().take_while(|byte| is_number_byte(**byte)).count()
 }
