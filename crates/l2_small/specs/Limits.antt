@@ -4,14 +4,18 @@ use Rattle.l2_syntax.specs.Raw.{ExprTree, Name, Number, Choice, Parenthesised, U
 use Rattle.l2_small_lex.specs.declared.token.Token.{Token}
 use Rattle.l2_small_lex.specs.declared.token.Token.TheVariants as tok
 
--- how many brackets are open behind these tokens at most, where n are open before them
+-- how many brackets are open behind a token, where n are open before it
+abbrev pub opened : ℕ → Token → ℕ
+opened n tok.OpenParenthesis = n + 1
+opened n tok.OpenBrace = n + 1
+opened n tok.CloseParenthesis = n - 1
+opened n tok.CloseBrace = n - 1
+opened n t = n
+
+-- how many brackets are open at one place of these tokens at most, where n are open before them
 abbrev pub brackets : ℕ → List Token → ℕ
 brackets n [] = n
-brackets n (tok.OpenParenthesis ∷ ts) = brackets (n + 1) ts
-brackets n (tok.OpenBrace ∷ ts) = brackets (n + 1) ts
-brackets n (tok.CloseParenthesis ∷ ts) = max n (brackets (n - 1) ts)
-brackets n (tok.CloseBrace ∷ ts) = max n (brackets (n - 1) ts)
-brackets n (t ∷ ts) = brackets n ts
+brackets n (t ∷ ts) = max n (brackets (opened n t) ts)
 
 -- how many tokens an expression has
 abbrev pub size : ExprTree → ℕ

@@ -2,11 +2,16 @@
 #![tactic(auto)]
 
 mod error;
+mod limits;
 mod make;
 mod parse;
+
 mod stack;
 mod step;
+#[cfg(test)]
+mod tests;
+mod unit;
 
 
 pub use error::SmallError;
-pub use l2_small_lex::Token;
+pub use unit::{read, unique_law};

@@ -46,13 +46,14 @@ fn owned(alloc: Global, known: &IndexSet<&[u8]>) -> Result<Vec<Name>, AllocError
 
 /// Passes over the first byte of a rest of a text, and takes the piece that begins there.
 fn advance<'a>(known: &mut IndexSet<&'a [u8]>, tokens: &mut Vec<Token>, rest: &'a [u8], place: Place, inside: usize) -> Result<(Place, usize), AllocError>
-    requires few { length known.old.keys < 2 ^ 32 }
+    requires known { length known.old.keys < 2 ^ 32 }
     requires offset { place.offset ≤ 1048576 }
     requires line { place.line ≤ 1048577 }
     requires col { place.col ≤ 1048577 }
     ensures tokens { IfOk result (λ r. tokens.new.items ++ tokens_of (map (λ k. k.now) known.new.keys) (cut r.0 r.1 (drop 1 rest.now)) ≡ tokens.old.items ++ tokens_of (map (λ k. k.now) known.old.keys) (cut place inside rest.now)) }
     ensures names { IfOk result (λ r. names_of (map (λ k. k.now) known.new.keys) (cut r.0 r.1 (drop 1 rest.now)) ≡ names_of (map (λ k. k.now) known.old.keys) (cut place inside rest.now)) }
     ensures more { OnOk result (length known.new.keys ≤ length known.old.keys + 1) }
+    ensures few { OnOk result (length tokens.new.items ≤ length tokens.old.items + 1) }
     ensures place { IfOk result (λ r. (r.0.offset ≤ place.offset + 1) × (r.0.line ≤ place.line + 1) × (r.0.col ≤ place.col + 1)) }
 {
     match rest {
@@ -90,6 +91,7 @@ pub fn lex(alloc: Global, text: &[u8]) -> Result<Lexed, AllocError>
     requires { length text.now ≤ 1048576 }
     ensures tokens { IfOk result (λ r. r.tokens.items ≡ tokens text.now) }
     ensures names { IfOk result (λ r. map (λ n. n.bytes) r.names.items ≡ names text.now) }
+    ensures few { IfOk result (λ r. length r.tokens.items ≤ length text.now) }
 {
     let mut known = IndexSet::new(alloc);
     match known.insert(b"main".as_slice()) {

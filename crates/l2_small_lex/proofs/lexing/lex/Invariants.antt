@@ -7,4 +7,4 @@ abbrev pub invariant-loop-at : goal.invariant-loop-at
 invariant-loop-at l =
     (l.tokens.items ++ tokens_of (map (λ k. k.now) l.known.keys) (cut l.place l.inside (drop l.at l.text)) ≡ tokens l.text)
     × (names_of (map (λ k. k.now) l.known.keys) (cut l.place l.inside (drop l.at l.text)) ≡ names l.text)
-    × (length l.known.keys ≤ l.at + 1) × (l.place.offset ≤ l.at) × (l.place.line ≤ l.at + 1) × (l.place.col ≤ l.at + 1)
+    × (length l.known.keys ≤ l.at + 1) × (l.place.offset ≤ l.at) × (l.place.line ≤ l.at + 1) × (l.place.col ≤ l.at + 1) × (length l.tokens.items ≤ l.at)
