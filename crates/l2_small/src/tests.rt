@@ -64,6 +64,7 @@ const NOT_SMALL: [&str; 38] = [
 ];
 
 /// A text with repeated parts: its head, two parts and the one between, its end, and how often both parts stand.
+#[derive(Clone, Copy)]
 struct Nested {
     head: &'static str,
     open: &'static str,
