@@ -1,5 +1,5 @@
 -- A loop that counts on the tokens, and keeps the greatest count.
-use Rattle.std.proofs.Common.{◌≡◌, ◌≤◌, ◌+◌, ◌-◌, ◌*◌, max, ℕ, zero, suc, List, [], ◌∷◌, drop, refl, sym, ap, ◌∙◌, arith}
+use Rattle.std.proofs.Common.{◌≡◌, ◌≤◌, ◌+◌, max, ℕ, zero, suc, List, [], ◌∷◌, ap, ◌∙◌, arith}
 use Rattle.l2_small_lex.specs.declared.token.Token.{Token}
 use Rattle.l2_small_lex.specs.declared.token.Token.TheVariants as tok
 use Rattle.l2_small.specs.Limits.{opened, brackets}

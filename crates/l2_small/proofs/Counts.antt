@@ -1,5 +1,5 @@
 -- The counts on the tokens of a unit, and the limits of its tree.
-use Rattle.std.proofs.Common.{◌≡◌, ◌≤◌, ◌<◌, ◌+◌, ◌-◌, ◌*◌, ◌↔◌, max, ℕ, zero, suc, pos, negsuc, List, [], ◌∷◌, refl, sym, ap, ◌∙◌, subst, arith}
+use Rattle.std.proofs.Common.{◌≡◌, ◌≤◌, ◌+◌, ◌-◌, ◌*◌, ◌↔◌, max, ℕ, zero, suc, pos, negsuc, List, [], ◌∷◌, refl, sym, ap, ◌∙◌, arith}
 use Rattle.l2_syntax.specs.declared.raw.UnaryOperator.{UnaryOperator}
 use Rattle.l2_syntax.specs.declared.raw.UnaryOperator.TheVariants.{Negate, Not}
 use Rattle.l2_syntax.specs.declared.raw.BinaryOperator.{BinaryOperator}
@@ -7,9 +7,9 @@ use Rattle.l2_syntax.specs.declared.raw.BinaryOperator.TheVariants as op
 use Rattle.l2_syntax.specs.Raw.{ExprTree, Name, Number, Choice, Parenthesised, Unary, Binary, StmtTree, Block, Declare, Initialise, Assign, If, IfElse, While, Assert, Return, StmtTrees, none, also, UnitTree}
 use Rattle.l2_small_lex.specs.declared.token.Token.{Token}
 use Rattle.l2_small_lex.specs.declared.token.Token.TheVariants as tok
-use Rattle.l2_small.specs.Trees.{unary_token, binary_token, number_token, spell, spell_stmt, spell_stmts, spell_unit, Fits, FitItem, FitBlock, FitItems}
+use Rattle.l2_small.specs.Trees.{unary_token, binary_token, spell, spell_stmt, spell_stmts, spell_unit, FitItem, FitBlock, FitItems}
 use Rattle.l2_small.specs.Limits.{size, depth, depths, longest, longests}
-use Rattle.l2_small.specs.Counts.{braced, braces, weight, counted, spans}
+use Rattle.l2_small.specs.Counts.{braced, braces, counted, spans}
 
 -- runs
 
@@ -102,7 +102,7 @@ mutual
       omega arith
   spans_item (IfElse e s t) f m =
       let a = goes_on 0 1 tok.If (tok.OpenParenthesis ∷ spell e (tok.CloseParenthesis ∷ spell_stmt s (tok.Else ∷ spell_stmt t m))) refl (omega arith)
-              ∙ spans_test e (spell_stmt s (tok.Else ∷ spell_stmt t m)) ∙ spans_block s f.1 (3 + size e) (tok.Else ∷ spell_stmt t m) in
+      ∙ spans_test e (spell_stmt s (tok.Else ∷ spell_stmt t m)) ∙ spans_block s f.1 (3 + size e) (tok.Else ∷ spell_stmt t m) in
       let b = goes_on 0 1 tok.Else (spell_stmt t m) refl (omega arith) ∙ spans_block t f.2 1 m in
       omega arith
   spans_item (While p e s) f m =

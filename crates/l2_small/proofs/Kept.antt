@@ -1,17 +1,15 @@
 -- The states that the reader comes to, the tokens that it has read, and that every step keeps them.
-use Rattle.std.proofs.Common.{◌≡◌, ◌≤◌, ◌<◌, ◌+◌, ℕ, zero, pos, negsuc, List, [], ◌∷◌, Bool, true, false, cond, Option, Some, None, refl, sym, ap, ◌∙◌, subst, arith}
+use Rattle.std.proofs.Common.{◌≡◌, ◌≤◌, ◌<◌, ℕ, zero, List, [], ◌∷◌, Bool, true, false, cond, Option, Some, None, refl, ap, ◌∙◌, subst, arith}
 use Rattle.std.proofs.Math.Dec.{leb}
-use Rattle.std.proofs.lemmas.Bool.{le-leb, lt-leb, leb-true, leb-false}
+use Rattle.std.proofs.lemmas.Bool.{leb-true, leb-false}
 use Rattle.l2_syntax.specs.declared.place.Place.{Place}
-use Rattle.l2_syntax.specs.declared.raw.UnaryOperator.{UnaryOperator}
-use Rattle.l2_syntax.specs.declared.raw.UnaryOperator.TheVariants.{Negate, Not}
 use Rattle.l2_syntax.specs.declared.raw.BinaryOperator.{BinaryOperator}
 use Rattle.l2_syntax.specs.declared.raw.BinaryOperator.TheVariants as op
-use Rattle.l2_syntax.specs.Raw.{ExprTree, Name, Number, Choice, Parenthesised, Unary, Binary, StmtTree, Block, Declare, Initialise, Assign, If, IfElse, While, Assert, Return, StmtTrees, none, also, UnitTree}
+use Rattle.l2_syntax.specs.Raw.{ExprTree, StmtTree, Block, Declare, Initialise, Assign, If, IfElse, While, Assert, Return, none}
 use Rattle.l2_small_lex.specs.declared.token.Token.{Token}
 use Rattle.l2_small_lex.specs.declared.token.Token.TheVariants as tok
-use Rattle.l2_small.specs.Trees.{unary_token, binary_token, number_token, spell, spell_stmt, spell_stmts, spell_unit, rank, level, Fits, FitItem, FitBlock, FitItems}
-use Rattle.l2_small.specs.Reader.{Half, unary, binary, Open, parenthesis, if_test, while_test, asserts, initialises, assigns, returns, Body, of_main, of_then, of_else, of_while, Frame, half, open_at, block, Point, start, main_name, main_open, main_void, main_close, main_body, item, declared, declared_name, assigned, if_open, while_open, assert_open, asserted, body_open, then_done, operand, have, choice_open, choice_close, done, Next, Stop, To, half_rank, whole, binary_of, demand_of, demand, added, close, semicolon, ended, shifted, after_operand, at_operand, at_end, at_item, at_then_done, at_declared_name, step, Verdict, Refused, Reads, finish, on_next, feed}
+use Rattle.l2_small.specs.Trees.{unary_token, binary_token, spell, spell_stmt, spell_stmts, rank, level, Fits, FitItem, FitBlock, FitItems}
+use Rattle.l2_small.specs.Reader.{Half, unary, binary, Open, parenthesis, if_test, while_test, asserts, initialises, assigns, returns, Body, of_main, of_then, of_else, of_while, Frame, half, open_at, block, Point, start, main_name, main_open, main_void, main_close, main_body, item, declared, declared_name, assigned, if_open, while_open, assert_open, asserted, body_open, then_done, operand, have, choice_open, choice_close, done, Next, Stop, To, half_rank, whole, binary_of, demand_of, demand, added, close, semicolon, ended, shifted, after_operand, at_operand, at_end, at_item, at_then_done, at_declared_name, step}
 use Rattle.l2_small.proofs.Fed.{wants_half, wants, rank_low}
 
 abbrev pub front_half : Half → List Token → List Token
@@ -220,8 +218,8 @@ kept_after (half h ∷ ks) e t g f w d =
     let a = g.1 in let l = whole_level h e in
     kept_cond (λ m. before (half h ∷ ks) (spell e (t ∷ m))) (leb (demand t) (half_rank h)) (after_operand ks (whole h e) t) (shifted (binary_of t) t (half h ∷ ks) e)
     (λ r. let x = leb-true _ _ r in
-        kept_same (λ m. before (half h ∷ ks) (spell e (t ∷ m))) (λ m. before ks (spell (whole h e) (t ∷ m))) (after_operand ks (whole h e) t) (λ m. ap (λ z. before ks z) (whole_spells h e (t ∷ m)))
-        (kept_after ks (whole h e) t g.2 (whole_fits h e g.0 f w) (omega arith) (omega arith)))
+    kept_same (λ m. before (half h ∷ ks) (spell e (t ∷ m))) (λ m. before ks (spell (whole h e) (t ∷ m))) (after_operand ks (whole h e) t) (λ m. ap (λ z. before ks z) (whole_spells h e (t ∷ m)))
+    (kept_after ks (whole h e) t g.2 (whole_fits h e g.0 f w) (omega arith) (omega arith)))
     (λ r. let x = leb-false _ _ r in kept_shifted (binary_of t) t (half h ∷ ks) e refl g f d (λ o q. half_binary_wants h o (subst (λ y. half_rank h < demand_of y) q x)))
 kept_after (open_at o ∷ ks) e t g f w d = kept_shifted (binary_of t) t (open_at o ∷ ks) e refl g f d (λ u q. omega arith)
 kept_after (block b ss ∷ ks) e t g f w d = absurd g

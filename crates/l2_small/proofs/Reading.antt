@@ -1,17 +1,10 @@
 -- The reader reads a unit exactly where the tokens spell it.
-use Rattle.std.proofs.Common.{◌≡◌, ◌≤◌, ◌<◌, ◌+◌, ℕ, pos, negsuc, List, [], ◌∷◌, Bool, true, false, cond, Option, Some, None, refl, sym, ap, ◌∙◌, subst, arith}
-use Rattle.std.proofs.Math.Dec.{leb}
-use Rattle.std.proofs.lemmas.Bool.{le-leb, lt-leb, leb-true, leb-false}
+use Rattle.std.proofs.Common.{◌≡◌, List, [], ◌∷◌, refl, sym, ap, ◌∙◌, subst}
 use Rattle.l2_syntax.specs.declared.place.Place.{Place}
-use Rattle.l2_syntax.specs.declared.raw.UnaryOperator.{UnaryOperator}
-use Rattle.l2_syntax.specs.declared.raw.UnaryOperator.TheVariants.{Negate, Not}
-use Rattle.l2_syntax.specs.declared.raw.BinaryOperator.{BinaryOperator}
-use Rattle.l2_syntax.specs.declared.raw.BinaryOperator.TheVariants as op
-use Rattle.l2_syntax.specs.Raw.{ExprTree, Name, Number, Choice, Parenthesised, Unary, Binary, StmtTree, Block, Declare, Initialise, Assign, If, IfElse, While, Assert, Return, StmtTrees, none, also, UnitTree}
+use Rattle.l2_syntax.specs.Raw.{StmtTrees, UnitTree}
 use Rattle.l2_small_lex.specs.declared.token.Token.{Token}
-use Rattle.l2_small_lex.specs.declared.token.Token.TheVariants as tok
-use Rattle.l2_small.specs.Trees.{unary_token, binary_token, number_token, spell, spell_stmt, spell_stmts, spell_unit, rank, level, Fits, FitItem, FitBlock, FitItems}
-use Rattle.l2_small.specs.Reader.{Half, unary, binary, Open, parenthesis, if_test, while_test, asserts, initialises, assigns, returns, Body, of_main, of_then, of_else, of_while, Frame, half, open_at, block, Point, start, main_name, main_open, main_void, main_close, main_body, item, declared, declared_name, assigned, if_open, while_open, assert_open, asserted, body_open, then_done, operand, have, choice_open, choice_close, done, Next, Stop, To, half_rank, whole, binary_of, demand_of, demand, added, close, semicolon, ended, shifted, after_operand, at_operand, at_end, at_item, at_then_done, at_declared_name, step, Verdict, Refused, Reads, finish, on_next, feed}
+use Rattle.l2_small.specs.Trees.{spell_unit, FitItems}
+use Rattle.l2_small.specs.Reader.{Frame, Point, start, done, Next, Stop, To, step, Verdict, Refused, Reads, finish, on_next, feed}
 use Rattle.l2_small.proofs.Fed.{fed_unit}
 use Rattle.l2_small.proofs.Kept.{before, own, Good, Kept, kept_step}
 

@@ -1,15 +1,15 @@
 -- The reader, the counts and the definition of what a text spells.
-use Rattle.std.proofs.Common.{◌≡◌, ◌≤◌, ◌+◌, ℕ, List, [], ◌∷◌, map, Result, Ok, Err, refl, sym, ap, ◌∙◌, subst, arith}
+use Rattle.std.proofs.Common.{◌≡◌, ◌≤◌, ℕ, List, [], ◌∷◌, map, refl, sym, ap, ◌∙◌, subst}
 use Rattle.l2_syntax.specs.declared.place.Place.{Place}
 use Rattle.l2_syntax.specs.declared.token.Name.{Name as NameText}
 use Rattle.l2_syntax.specs.Raw.{StmtTrees, UnitTree}
 use Rattle.l2_small_lex.specs.declared.token.Token.{Token}
 use Rattle.l2_small_lex.specs.Tokens.{tokens, names}
-use Rattle.l2_small.specs.Trees.{spell_unit, FitItems}
+use Rattle.l2_small.specs.Trees.{spell_unit}
 use Rattle.l2_small.specs.Reader.{start, feed, Verdict, Reads, Refused}
-use Rattle.l2_small.specs.Limits.{brackets, depths, longests}
+use Rattle.l2_small.specs.Limits.{brackets}
 use Rattle.l2_small.specs.Counts.{braces, spans}
-use Rattle.l2_small.specs.Spelling.{name_of, Spells}
+use Rattle.l2_small.specs.Spells.{name_of, Spells}
 use Rattle.l2_small.proofs.Reading.{spelled, reads}
 use Rattle.l2_small.proofs.Counts.{unit_spans, unit_braces}
 

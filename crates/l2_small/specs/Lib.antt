@@ -3,4 +3,4 @@ pub mod Reader
 pub mod States
 pub mod Limits
 pub mod Counts
-pub mod Spelling
+pub mod Spells

@@ -1,5 +1,5 @@
 -- The limits of the form: brackets and statements that are open at one place, and the tokens of a full expression.
-use Rattle.std.specs.Prelude.{◌≤◌, ◌+◌, ◌-◌, ℕ, max, List, [], ◌∷◌}
+use Rattle.std.specs.Prelude.{◌+◌, ◌-◌, ℕ, max, List, [], ◌∷◌}
 use Rattle.l2_syntax.specs.Raw.{ExprTree, Name, Number, Choice, Parenthesised, Unary, Binary, StmtTree, Block, Declare, Initialise, Assign, If, IfElse, While, Assert, Return, StmtTrees, none, also}
 use Rattle.l2_small_lex.specs.declared.token.Token.{Token}
 use Rattle.l2_small_lex.specs.declared.token.Token.TheVariants as tok

@@ -1,5 +1,5 @@
 -- The reader: a point and a stack of what is open, moved on by each token.
-use Rattle.std.specs.Prelude.{◌≡◌, ◌+◌, ℕ, zero, pos, List, [], ◌∷◌, Bool, true, false, cond, Option, Some, None}
+use Rattle.std.specs.Prelude.{ℕ, zero, pos, List, [], ◌∷◌, cond, Option, Some, None}
 use Rattle.std.proofs.Math.Dec.{leb}
 use Rattle.l2_syntax.specs.declared.place.Place.{Place}
 use Rattle.l2_syntax.specs.declared.raw.UnaryOperator.{UnaryOperator}
@@ -47,21 +47,21 @@ pub data Point : Type 0 where
   main_void : Place → Point
   main_close : Place → Point
   main_body : Place → Point
-  item : Point                         -- an item or `}`
-  declared : Point                     -- a name
-  declared_name : ℕ → Place → Point    -- `=` or `;`
-  assigned : ℕ → Place → Point         -- `=`
+  item : Point  -- an item or `}`
+  declared : Point  -- a name
+  declared_name : ℕ → Place → Point  -- `=` or `;`
+  assigned : ℕ → Place → Point  -- `=`
   if_open : Point
   while_open : Place → Point
   assert_open : Place → Point
   asserted : Place → ExprTree → Point  -- `;`
-  body_open : Body → Point             -- `{`
+  body_open : Body → Point  -- `{`
   then_done : ExprTree → StmtTree → Point  -- `else`, an item or `}`
   operand : Point
-  have : ExprTree → Point              -- an operand stands
+  have : ExprTree → Point  -- an operand stands
   choice_open : Place → Point
   choice_close : Place → Point
-  done : Place → StmtTrees → Point     -- nothing more
+  done : Place → StmtTrees → Point  -- nothing more
 
 pub data Next : Type 0 where
   Stop : Next
@@ -72,10 +72,12 @@ abbrev pub half_rank : Half → ℕ
 half_rank (unary o) = 5
 half_rank (binary o a) = rank o
 
+-- with its right operand
 abbrev pub whole : Half → ExprTree → ExprTree
 whole (unary o) e = Unary o e
 whole (binary o a) e = Binary o a e
 
+-- the binary operator that a token is
 abbrev pub binary_of : Token → Option BinaryOperator
 binary_of tok.Star = Some op.Multiply
 binary_of tok.Plus = Some op.Add
@@ -116,11 +118,13 @@ semicolon (open_at (assigns n p) ∷ ks) e = To item (added (Assign n p e) ks)
 semicolon (open_at returns ∷ ks) e = To item (added (Return e) ks)
 semicolon ks e = Stop
 
+-- what ends an expression
 abbrev pub ended : Token → List Frame → ExprTree → Next
 ended tok.CloseParenthesis ks e = close ks e
 ended tok.Semicolon ks e = semicolon ks e
 ended t ks e = Stop
 
+-- a token that no operator that waits binds tighter than
 abbrev pub shifted : Option BinaryOperator → Token → List Frame → ExprTree → Next
 shifted (Some o) t ks e = To operand (half (binary o e) ∷ ks)
 shifted None t ks e = ended t ks e
@@ -130,6 +134,7 @@ abbrev pub after_operand : List Frame → ExprTree → Token → Next
 after_operand (half h ∷ ks) e t = cond (leb (demand t) (half_rank h)) (after_operand ks (whole h e) t) (shifted (binary_of t) t (half h ∷ ks) e)
 after_operand ks e t = shifted (binary_of t) t ks e
 
+-- where an operand stands
 abbrev pub at_operand : Token → List Frame → Next
 at_operand (tok.Name n p) ks = To (have (Name n p)) ks
 at_operand (tok.Number n) ks = To (have (Number (pos n))) ks
@@ -139,6 +144,12 @@ at_operand tok.Minus ks = To operand (half (unary Negate) ∷ ks)
 at_operand tok.Exclamation ks = To operand (half (unary Not) ∷ ks)
 at_operand t ks = Stop
 
+-- the `(` before an expression
+abbrev pub at_open : Open → Token → List Frame → Next
+at_open o tok.OpenParenthesis ks = To operand (open_at o ∷ ks)
+at_open o t ks = Stop
+
+-- the `}` of a block
 abbrev pub at_end : List Frame → Next
 at_end (block (of_main p) ss ∷ ks) = To (done p ss) ks
 at_end (block (of_then e) ss ∷ ks) = To (then_done e (Block ss)) ks
@@ -146,6 +157,7 @@ at_end (block (of_else e s) ss ∷ ks) = To item (added (IfElse e s (Block ss)) 
 at_end (block (of_while p e) ss ∷ ks) = To item (added (While p e (Block ss)) ks)
 at_end ks = Stop
 
+-- where an item or `}` stands
 abbrev pub at_item : Token → List Frame → Next
 at_item tok.CloseBrace ks = at_end ks
 at_item tok.Int ks = To declared ks
@@ -156,10 +168,12 @@ at_item (tok.Assert p) ks = To (assert_open p) ks
 at_item tok.Return ks = To operand (open_at returns ∷ ks)
 at_item t ks = Stop
 
+-- behind the block of an `if`
 abbrev pub at_then_done : ExprTree → StmtTree → Token → List Frame → Next
 at_then_done e s tok.Else ks = To (body_open (of_else e s)) ks
 at_then_done e s t ks = at_item t (added (If e s) ks)
 
+-- behind the name of a declaration
 abbrev pub at_declared_name : ℕ → Place → Token → List Frame → Next
 at_declared_name n p tok.Equal ks = To operand (open_at (initialises n p) ∷ ks)
 at_declared_name n p tok.Semicolon ks = To item (added (Declare n p) ks)
@@ -176,9 +190,9 @@ step item t ks = at_item t ks
 step declared (tok.Name n p) ks = To (declared_name n p) ks
 step (declared_name n p) t ks = at_declared_name n p t ks
 step (assigned n p) tok.Equal ks = To operand (open_at (assigns n p) ∷ ks)
-step if_open tok.OpenParenthesis ks = To operand (open_at if_test ∷ ks)
-step (while_open p) tok.OpenParenthesis ks = To operand (open_at (while_test p) ∷ ks)
-step (assert_open p) tok.OpenParenthesis ks = To operand (open_at (asserts p) ∷ ks)
+step if_open t ks = at_open if_test t ks
+step (while_open p) t ks = at_open (while_test p) t ks
+step (assert_open p) t ks = at_open (asserts p) t ks
 step (asserted p e) tok.Semicolon ks = To item (added (Assert p e) ks)
 step (body_open b) tok.OpenBrace ks = To item (block b none ∷ ks)
 step (then_done e s) t ks = at_then_done e s t ks

@@ -1,5 +1,5 @@
 -- The reader's point and stack, as the code keeps them.
-use Rattle.std.specs.Prelude.{ℕ, List, [], ◌∷◌}
+use Rattle.std.specs.Prelude.{List, [], ◌∷◌}
 use Rattle.l2_syntax.specs.Raw.{expr_tree, stmt_tree, stmts_onto, none}
 use Rattle.l2_small.specs.declared.stack.Holder.{Holder}
 use Rattle.l2_small.specs.declared.stack.Holder.TheVariants as holder

@@ -1,5 +1,5 @@
 -- The tokens that a tree spells, and which trees are well formed.
-use Rattle.std.specs.Prelude.{◌≡◌, ◌≤◌, ◌<◌, ◌+◌, max, ℕ, ℤ, pos, negsuc, List, [], ◌∷◌}
+use Rattle.std.specs.Prelude.{◌≤◌, ◌<◌, ℕ, ℤ, pos, negsuc, List, [], ◌∷◌}
 use Rattle.l2_syntax.specs.declared.raw.UnaryOperator.{UnaryOperator}
 use Rattle.l2_syntax.specs.declared.raw.UnaryOperator.TheVariants.{Negate, Not}
 use Rattle.l2_syntax.specs.declared.raw.BinaryOperator.{BinaryOperator}
@@ -23,7 +23,7 @@ binary_token op.GreaterEqual = tok.GreaterEqual
 binary_token op.Equal = tok.EqualEqual
 binary_token op.NotEqual = tok.NotEqual
 
--- constants have no sign
+-- constants have no sign: no tree that fits has one below 0
 abbrev pub number_token : ℤ → Token
 number_token (pos n) = tok.Number n
 number_token (negsuc n) = tok.Other

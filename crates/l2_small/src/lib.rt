@@ -5,13 +5,11 @@ mod error;
 mod limits;
 mod make;
 mod parse;
-
 mod stack;
 mod step;
 #[cfg(test)]
 mod tests;
 mod unit;
-
 
 pub use error::SmallError;
 pub use unit::{read, unique_law};

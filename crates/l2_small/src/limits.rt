@@ -50,13 +50,7 @@ fn counted(count: usize, token: Token) -> usize
 {
     match token {
         Token::Semicolon | Token::OpenBrace | Token::CloseBrace => 0,
-        _ => {
-            if count == 0 {
-                weight(token)
-            } else {
-                count + 1
-            }
-        }
+        _ => { if count == 0 { weight(token) } else { count + 1 } }
     }
 }
 

@@ -29,7 +29,12 @@ pub fn unary(alloc: Global, operator: UnaryOperator, e: Expr) -> Result<Expr, Sm
     }
 }
 
-pub fn binary(alloc: Global, operator: BinaryOperator, left: Expr, right: Expr) -> Result<Expr, SmallError>
+pub fn binary(
+    alloc: Global,
+    operator: BinaryOperator,
+    left: Expr,
+    right: Expr,
+) -> Result<Expr, SmallError>
     ensures ok { IfOk result (λ r. expr_tree r ≡ Binary operator (expr_tree left) (expr_tree right)) }
     ensures err { IfErr result (λ f. f ≡ SmallError.NoMemory) }
 {
@@ -94,7 +99,12 @@ pub fn with_unary(alloc: Global, operator: UnaryOperator, stack: Stack) -> Resul
 }
 
 /// A stack with an operator and its left operand.
-pub fn with_binary(alloc: Global, operator: BinaryOperator, left: Expr, stack: Stack) -> Result<Stack, SmallError>
+pub fn with_binary(
+    alloc: Global,
+    operator: BinaryOperator,
+    left: Expr,
+    stack: Stack,
+) -> Result<Stack, SmallError>
     ensures ok { IfOk result (λ s. frames_of s ≡ half (binary operator (expr_tree left)) ∷ frames_of stack) }
     ensures err { IfErr result (λ e. e ≡ SmallError.NoMemory) }
 {

@@ -2,11 +2,14 @@
 ghost use Rattle.std.specs.Prelude.{◌≡◌, ◌≢◌, ◌∷◌, ◌≤◌, IfOk, IfErr};
 ghost use Rattle.l2_syntax.specs.Raw.{none, expr_tree, stmt_tree};
 ghost use Rattle.l2_small.specs.Trees.{rank};
-ghost use Rattle.l2_small.specs.Reader.{To, Stop, item, operand, block, open_at, added, binary_of, demand, at_operand, shifted, ended, close, semicolon, after_operand, at_end, at_item, at_then_done, at_declared_name, choice_open, choice_close, done, step};
+ghost use Rattle.l2_small.specs.Reader.{To, Stop, item, operand, block, open_at, added, binary_of, demand, at_operand, at_open, shifted, ended, close, semicolon, after_operand, at_end, at_item, at_then_done, at_declared_name, choice_open, choice_close, done, step};
 ghost use Rattle.l2_small.specs.States.{frames_of, heading_of, part_of, point_of, open_of, body_of};
 
 use crate::error::SmallError;
-use crate::make::{binary, block_statement, if_else, if_then, parenthesised, unary, while_loop, with_binary, with_block, with_holder, with_item, with_unary};
+use crate::make::{
+    binary, block_statement, if_else, if_then, parenthesised, unary, while_loop, with_binary,
+    with_block, with_holder, with_item, with_unary,
+};
 use crate::stack::{Expected, Heading, Holder, Owner, Part, Stack};
 use l2_small_lex::Token;
 use l2_syntax::{BinaryOperator, Expr, Place, Stmt, UnaryOperator};
@@ -67,15 +70,23 @@ fn close(alloc: Global, stack: Stack, e: Expr) -> Step
                 Ok(e) => Ok((Expected::Operator(e), Box::into_inner(rest))),
                 Err(f) => Err(f),
             },
-            Holder::If => Ok((Expected::Part(Part::Body(Owner::Then(e))), Box::into_inner(rest))),
-            Holder::While(place) => Ok((Expected::Part(Part::Body(Owner::While(place, e))), Box::into_inner(rest))),
-            Holder::Assert(place) => Ok((Expected::Part(Part::Asserted(place, e)), Box::into_inner(rest))),
+            Holder::If => Ok((
+                Expected::Part(Part::Body(Owner::Then(e))),
+                Box::into_inner(rest),
+            )),
+            Holder::While(place) => Ok((
+                Expected::Part(Part::Body(Owner::While(place, e))),
+                Box::into_inner(rest),
+            )),
+            Holder::Assert(place) => Ok((
+                Expected::Part(Part::Asserted(place, e)),
+                Box::into_inner(rest),
+            )),
             _ => Err(SmallError::NotSmall),
         },
         _ => Err(SmallError::NotSmall),
     }
 }
-
 
 /// One more item in the innermost block.
 fn with_statement(statement: Stmt, stack: Stack) -> Step
@@ -95,8 +106,14 @@ fn semicolon(stack: Stack, e: Expr) -> Step
 {
     match stack {
         Stack::Expression(holder, rest) => match holder {
-            Holder::Initialise(name, place) => with_statement(Stmt::Initialise(name, place, e), Box::into_inner(rest)),
-            Holder::Assign(name, place) => with_statement(Stmt::Assign(name, place, e), Box::into_inner(rest)),
+            Holder::Initialise(name, place) => with_statement(
+                Stmt::Initialise(name, place, e),
+                Box::into_inner(rest),
+            ),
+            Holder::Assign(name, place) => with_statement(
+                Stmt::Assign(name, place, e),
+                Box::into_inner(rest),
+            ),
             Holder::Return => with_statement(Stmt::Return(e), Box::into_inner(rest)),
             _ => Err(SmallError::NotSmall),
         },
@@ -157,8 +174,18 @@ fn after_operand(alloc: Global, token: Token, stack: Stack, e: Expr) -> Step
             }
         }
         Stack::Bottom => shifted(alloc, token, Stack::Bottom, e),
-        Stack::Expression(holder, rest) => shifted(alloc, token, Stack::Expression(holder, rest), e),
-        Stack::Block(owner, items, rest) => shifted(alloc, token, Stack::Block(owner, items, rest), e),
+        Stack::Expression(holder, rest) => shifted(
+            alloc,
+            token,
+            Stack::Expression(holder, rest),
+            e,
+        ),
+        Stack::Block(owner, items, rest) => shifted(
+            alloc,
+            token,
+            Stack::Block(owner, items, rest),
+            e,
+        ),
     }
 }
 
@@ -214,12 +241,20 @@ fn end(alloc: Global, stack: Stack) -> Step
     match stack {
         Stack::Block(owner, items, rest) => match owner {
             Owner::Main(place) => Ok((Expected::Done(place, items), Box::into_inner(rest))),
-            Owner::Then(test) => Ok((Expected::ThenDone(test, block_statement(items)), Box::into_inner(rest))),
+            Owner::Then(test) => Ok((
+                Expected::ThenDone(test, block_statement(items)),
+                Box::into_inner(rest),
+            )),
             Owner::Else(test, body) => match if_else(alloc, test, body, block_statement(items)) {
                 Ok(statement) => with_statement(statement, Box::into_inner(rest)),
                 Err(f) => Err(f),
             },
-            Owner::While(place, test) => match while_loop(alloc, place, test, block_statement(items)) {
+            Owner::While(place, test) => match while_loop(
+                alloc,
+                place,
+                test,
+                block_statement(items),
+            ) {
                 Ok(statement) => with_statement(statement, Box::into_inner(rest)),
                 Err(f) => Err(f),
             },
@@ -307,6 +342,17 @@ fn heading(alloc: Global, heading: Heading, token: Token, stack: Stack) -> Step
     }
 }
 
+/// The `(` before an expression.
+fn open(alloc: Global, holder: Holder, token: Token, stack: Stack) -> Step
+    ensures ok { IfOk result (λ r. at_open (open_of holder) token (frames_of stack) ≡ To (point_of r.0) (frames_of r.1)) }
+    ensures err { IfErr result (λ f. f ≢ SmallError.NoMemory → at_open (open_of holder) token (frames_of stack) ≡ Stop) }
+{
+    match token {
+        Token::OpenParenthesis => expression_in(alloc, holder, stack),
+        _ => Err(SmallError::NotSmall),
+    }
+}
+
 /// A token inside a statement.
 fn part(alloc: Global, part: Part, token: Token, stack: Stack) -> Step
     ensures ok { IfOk result (λ r. step (part_of part) token (frames_of stack) ≡ To (point_of r.0) (frames_of r.1)) }
@@ -314,7 +360,10 @@ fn part(alloc: Global, part: Part, token: Token, stack: Stack) -> Step
 {
     match part {
         Part::Declared => match token {
-            Token::Name(name, place) => Ok((Expected::Part(Part::DeclaredName(name, place)), stack)),
+            Token::Name(name, place) => Ok((
+                Expected::Part(Part::DeclaredName(name, place)),
+                stack,
+            )),
             _ => Err(SmallError::NotSmall),
         },
         Part::DeclaredName(name, place) => declared_name(alloc, name, place, token, stack),
@@ -322,18 +371,9 @@ fn part(alloc: Global, part: Part, token: Token, stack: Stack) -> Step
             Token::Equal => expression_in(alloc, Holder::Assign(name, place), stack),
             _ => Err(SmallError::NotSmall),
         },
-        Part::If => match token {
-            Token::OpenParenthesis => expression_in(alloc, Holder::If, stack),
-            _ => Err(SmallError::NotSmall),
-        },
-        Part::While(place) => match token {
-            Token::OpenParenthesis => expression_in(alloc, Holder::While(place), stack),
-            _ => Err(SmallError::NotSmall),
-        },
-        Part::Assert(place) => match token {
-            Token::OpenParenthesis => expression_in(alloc, Holder::Assert(place), stack),
-            _ => Err(SmallError::NotSmall),
-        },
+        Part::If => open(alloc, Holder::If, token, stack),
+        Part::While(place) => open(alloc, Holder::While(place), token, stack),
+        Part::Assert(place) => open(alloc, Holder::Assert(place), token, stack),
         Part::Asserted(place, e) => match token {
             Token::Semicolon => with_statement(Stmt::Assert(place, e), stack),
             _ => Err(SmallError::NotSmall),

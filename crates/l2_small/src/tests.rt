@@ -75,12 +75,54 @@ struct Nested {
 }
 
 const NESTED: [Nested; 6] = [
-    Nested { head: "int main(void){return ", open: "(", middle: "0", close: ")", end: ";}", most: 127 },
-    Nested { head: "int main(void){return ", open: "(", middle: "__VERIFIER_nondet_int()", close: ")", end: ";}", most: 126 },
-    Nested { head: "int main(void){", open: "if(1){", middle: "int x;", close: "}", end: "}", most: 63 },
-    Nested { head: "int main(void){return -0", open: "+0", middle: "", close: "", end: ";}", most: 511 },
-    Nested { head: "int main(void){assert(0", open: "<0", middle: "", close: "", end: ");}", most: 510 },
-    Nested { head: "int main(void){x=-0", open: "*0", middle: "", close: "", end: ";}", most: 510 },
+    Nested {
+        head: "int main(void){return ",
+        open: "(",
+        middle: "0",
+        close: ")",
+        end: ";}",
+        most: 127,
+    },
+    Nested {
+        head: "int main(void){return ",
+        open: "(",
+        middle: "__VERIFIER_nondet_int()",
+        close: ")",
+        end: ";}",
+        most: 126,
+    },
+    Nested {
+        head: "int main(void){",
+        open: "if(1){",
+        middle: "int x;",
+        close: "}",
+        end: "}",
+        most: 63,
+    },
+    Nested {
+        head: "int main(void){return -0",
+        open: "+0",
+        middle: "",
+        close: "",
+        end: ";}",
+        most: 511,
+    },
+    Nested {
+        head: "int main(void){assert(0",
+        open: "<0",
+        middle: "",
+        close: "",
+        end: ");}",
+        most: 510,
+    },
+    Nested {
+        head: "int main(void){x=-0",
+        open: "*0",
+        middle: "",
+        close: "",
+        end: ";}",
+        most: 510,
+    },
 ];
 
 /// Whether a text is read; want of memory is a fault.

@@ -1,6 +1,6 @@
 ghost use Rattle.std.specs.Prelude.{◌≡◌, ◌≤◌, IfOk, IsErrOf, List, ℕ, length};
 ghost use Rattle.l2_syntax.specs.Raw.{UnitTree, unit_tree};
-ghost use Rattle.l2_small.specs.Spelling.{Spells};
+ghost use Rattle.l2_small.specs.Spells.{Spells};
 
 use crate::error::SmallError;
 use crate::limits::within_limits;
@@ -23,7 +23,11 @@ pub fn read(alloc: Global, text: &[u8]) -> Result<Unit, SmallError>
         Ok(lexed) => {
             if within_limits(lexed.tokens.as_slice()) {
                 match parse(alloc, lexed.tokens.as_slice()) {
-                    Ok((main, items)) => Ok(Unit { main, items, names: List::new(lexed.names) }),
+                    Ok((main, items)) => Ok(Unit {
+                        main,
+                        items,
+                        names: List::new(lexed.names),
+                    }),
                     Err(e) => Err(e),
                 }
             } else {
@@ -36,5 +40,4 @@ pub fn read(alloc: Global, text: &[u8]) -> Result<Unit, SmallError>
 /// A text spells at most one tree.
 pub fn unique_law()
     ensures { (text : List ℕ) (u v : UnitTree) → Spells text u → Spells text v → u ≡ v }
-{
-}
+{}

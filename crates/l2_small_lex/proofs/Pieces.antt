@@ -1,5 +1,5 @@
 -- A piece that begins at the first byte of a rest.
-use Rattle.std.proofs.Common.{◌≡◌, ◌≤◌, ◌<◌, ◌+◌, ◌-◌, ℕ, Bool, true, false, cond, List, [], ◌∷◌, ◌++◌, append_assoc, take, drop, length, get_or, refl, sym, ap, ◌∙◌, arith}
+use Rattle.std.proofs.Common.{◌≡◌, ◌≤◌, ◌-◌, ℕ, false, cond, List, [], ◌∷◌, ◌++◌, append_assoc, take, drop, length, get_or, sym, ap, ◌∙◌, arith}
 use Rattle.l2_syntax.specs.declared.place.Place.{Place}
 use Rattle.l2_small_lex.specs.declared.token.Token.{Token}
 use Rattle.l2_small_lex.specs.Bytes.{is_space}

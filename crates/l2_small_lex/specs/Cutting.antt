@@ -1,5 +1,5 @@
 -- How a text is cut into pieces: white space is passed over, and each piece is the longest that begins where it does (C11 6.4).
-use Rattle.std.specs.Prelude.{ℕ, zero, suc, ◌+◌, ◌-◌, Bool, cond, ◌==◌, List, [], ◌∷◌, take}
+use Rattle.std.specs.Prelude.{ℕ, zero, suc, ◌+◌, ◌-◌, cond, ◌==◌, List, [], ◌∷◌, take}
 use Rattle.std.specs.List.{prefix_len}
 use Rattle.l2_syntax.specs.declared.place.Place.{Place}
 use Rattle.l2_small_lex.specs.Bytes.{is_space, is_letter, is_digit, is_word_byte, is_number_byte}

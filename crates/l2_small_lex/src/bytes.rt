@@ -2,8 +2,6 @@
 ghost use Rattle.std.specs.Prelude.{◌≡◌, ◌≤◌, length};
 ghost use Rattle.std.specs.List.{prefix_len};
 ghost use Rattle.l2_small_lex.specs.Bytes.{is_space, is_digit, is_letter, is_word_byte, is_number_byte};
-ghost use Rattle.l2_small_lex.specs.Cutting.{piece_length};
-
 
 pub fn is_space(byte: u8) -> bool
     ensures { result ≡ is_space byte }
@@ -46,5 +44,7 @@ pub fn number_length(text: &[u8]) -> usize
     ensures value { result ≡ prefix_len is_number_byte text.now }
     ensures within { result ≤ length text.now }
 {
-    text.iter().take_while(|byte| is_number_byte(**byte)).count()
+    text.iter()
+        .take_while(|byte| is_number_byte(**byte))
+        .count()
 }

@@ -1,17 +1,19 @@
 // How long a piece of a text is.
 ghost use Rattle.std.specs.Prelude.{◌≡◌, ◌≤◌, take, drop, length};
-ghost use Rattle.std.specs.List.{prefix_len};
-ghost use Rattle.l2_small_lex.specs.Cutting.{piece_length, behind};
+ghost use Rattle.l2_small_lex.specs.Cutting.{piece_length};
 
 use crate::bytes::{is_digit, is_letter, number_length, word_length};
 use crate::words::{is_three_bytes, is_two_bytes};
-use l2_syntax::Place;
 
 /// The first bytes of a text.
 pub fn front(text: &[u8], count: usize) -> &[u8]
     ensures { result.now ≡ take count text.now }
 {
-    if count < text.len() { &text[..count] } else { text }
+    if count < text.len() {
+        &text[..count]
+    } else {
+        text
+    }
 }
 
 /// What stands from a place on.

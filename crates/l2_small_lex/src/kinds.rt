@@ -1,7 +1,7 @@
 // What a piece is.
-ghost use Rattle.std.specs.Prelude.{◌≡◌, ◌≤◌, ◌==◌, ◌&&◌, ◌||◌, not, cond, Some, None, length, IsTrue, codes, if◌then◌else◌};
+ghost use Rattle.std.specs.Prelude.{◌≡◌, ◌≤◌, ◌==◌, length, IsTrue};
 ghost use Rattle.std.specs.List.{list_all};
-ghost use Rattle.l2_small_lex.specs.Bytes.{is_digit, is_letter};
+ghost use Rattle.l2_small_lex.specs.Bytes.{is_digit};
 ghost use Rattle.l2_small_lex.specs.Tokens.{begins_with, is_name, value_of, constant_token, word_token, bracket_token, operator_token, fixed_token};
 
 use crate::bytes::{is_digit, is_letter};
@@ -15,7 +15,8 @@ pub fn is_name(piece: &[u8]) -> bool
 {
     match piece {
         [] => false,
-        [first, ..] => is_letter(*first) && !(is_keyword(piece) || is_extension(piece) || is_built_in(piece)),
+        [first, ..] => is_letter(*first)
+            && !(is_keyword(piece) || is_extension(piece) || is_built_in(piece)),
     }
 }
 
@@ -51,11 +52,19 @@ fn begins_with_zero(piece: &[u8]) -> bool
 fn constant_token(piece: &[u8]) -> Token
     ensures { result ≡ constant_token piece.now }
 {
-    if piece.len() < 1 || piece.len() > 10 || !all_digits(piece) || piece.len() > 1 && begins_with_zero(piece) {
+    if piece.len() < 1
+        || piece.len() > 10
+        || !all_digits(piece)
+        || piece.len() > 1 && begins_with_zero(piece)
+    {
         return Token::Other;
     }
     let value = value_of(piece);
-    if value <= 2147483647 { Token::Number(value as u32) } else { Token::Other }
+    if value <= 2147483647 {
+        Token::Number(value as u32)
+    } else {
+        Token::Other
+    }
 }
 
 /// The token of a word that is no name, or another one.
@@ -137,5 +146,9 @@ fn operator_token(piece: &[u8], other: Token) -> Token
 pub fn fixed_token(piece: &[u8], place: Place) -> Token
     ensures { result ≡ fixed_token piece.now place }
 {
-    word_token(piece, place, bracket_token(piece, operator_token(piece, constant_token(piece))))
+    word_token(
+        piece,
+        place,
+        bracket_token(piece, operator_token(piece, constant_token(piece))),
+    )
 }

@@ -21,9 +21,17 @@ fn behind(byte: u8, place: Place) -> Place
 {
     let offset = place.offset + 1;
     if byte == b'\n' {
-        Place { offset, line: place.line + 1, col: 1 }
+        Place {
+            offset,
+            line: place.line + 1,
+            col: 1,
+        }
     } else {
-        Place { offset, line: place.line, col: place.col + 1 }
+        Place {
+            offset,
+            line: place.line,
+            col: place.col + 1,
+        }
     }
 }
 
@@ -35,7 +43,9 @@ fn owned(alloc: Global, known: &IndexSet<&[u8]>) -> Result<Vec<Name>, AllocError
     for index in 0..known.len() {
         if let Some(word) = known.get_index(index) {
             let bytes = Vec::from_slice(alloc, *word)?;
-            match names.push(Name { bytes: List::new(bytes) }) {
+            match names.push(Name {
+                bytes: List::new(bytes),
+            }) {
                 Ok(()) => {}
                 Err(_) => return Err(AllocError),
             }
@@ -45,7 +55,13 @@ fn owned(alloc: Global, known: &IndexSet<&[u8]>) -> Result<Vec<Name>, AllocError
 }
 
 /// Passes over the first byte of a rest of a text, and takes the piece that begins there.
-fn advance<'a>(known: &mut IndexSet<&'a [u8]>, tokens: &mut Vec<Token>, rest: &'a [u8], place: Place, inside: usize) -> Result<(Place, usize), AllocError>
+fn advance<'a>(
+    known: &mut IndexSet<&'a [u8]>,
+    tokens: &mut Vec<Token>,
+    rest: &'a [u8],
+    place: Place,
+    inside: usize,
+) -> Result<(Place, usize), AllocError>
     requires known { length known.old.keys < 2 ^ 32 }
     requires offset { place.offset ≤ 1048576 }
     requires line { place.line ≤ 1048577 }
@@ -99,7 +115,11 @@ pub fn lex(alloc: Global, text: &[u8]) -> Result<Lexed, AllocError>
         Err(_) => return Err(AllocError),
     }
     let mut tokens = Vec::new(alloc);
-    let mut place = Place { offset: 0, line: 1, col: 1 };
+    let mut place = Place {
+        offset: 0,
+        line: 1,
+        col: 1,
+    };
     let mut inside = 0;
     for at in 0..text.len() {
         let (next, more) = advance(&mut known, &mut tokens, from(text, at), place, inside)?;

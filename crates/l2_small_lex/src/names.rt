@@ -22,7 +22,11 @@ fn number<'a>(known: &mut IndexSet<&'a [u8]>, name: &'a [u8]) -> Result<usize, A
 }
 
 /// The token that a piece is.
-pub fn token<'a>(known: &mut IndexSet<&'a [u8]>, piece: &'a [u8], place: Place) -> Result<Token, AllocError>
+pub fn token<'a>(
+    known: &mut IndexSet<&'a [u8]>,
+    piece: &'a [u8],
+    place: Place,
+) -> Result<Token, AllocError>
     requires { length known.old.keys < 2 ^ 32 }
     ensures token { IfOk result (λ t. t ≡ token_of (map (λ k. k.now) known.old.keys) (record { bytes = piece.now; place = place })) }
     ensures known { OnOk result (map (λ k. k.now) known.new.keys ≡ with_piece (map (λ k. k.now) known.old.keys) (record { bytes = piece.now; place = place })) }

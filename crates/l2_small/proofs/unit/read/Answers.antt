@@ -5,7 +5,7 @@ use Rattle.l2_small_lex.specs.declared.token.Token.{Token}
 use Rattle.l2_small.specs.declared.error.SmallError.{SmallError}
 use Rattle.l2_small.specs.declared.error.SmallError.TheVariants.{NoMemory, NotSmall}
 use Rattle.l2_small.specs.Reader.{start, feed}
-use Rattle.l2_small.proofs.Spelling.{Counted, spells, spelt_counted, spelt_not_refused}
+use Rattle.l2_small.proofs.Spelling.{spells, spelt_counted, spelt_not_refused}
 use Rattle.l2_small.proofs.unit.read.Goals as goal
 
 pub returns-in-Ok-parse-clause-ok : goal.returns-in-Ok-parse-clause-ok

@@ -1,4 +1,4 @@
-use Rattle.std.proofs.Common.{◌≡◌, ◌≤◌, ◌+◌, ◌++◌, ◌∙◌, sym, ap, List, ℕ, map, drop, length, arith}
+use Rattle.std.proofs.Common.{◌≡◌, ◌+◌, ◌++◌, ◌∙◌, sym, ap, List, ℕ, map, drop, arith}
 use Rattle.std.proofs.lemmas.List.{drop-drop}
 use Rattle.l2_small_lex.specs.Cutting.{cut}
 use Rattle.l2_small_lex.specs.Tokens.{tokens_of, names_of}
@@ -13,11 +13,12 @@ loop-at-preserved c =
     let m = c.in_ok-next.ensures.more in
     let n = c.in_ok-next.ensures.few in
     let i6 = i.6 in let i2 = i.2 in let i3 = i.3 in let i4 = i.4 in let i5 = i.5 in
-    let p0 = p.0 in let p1 = p.1 in let p2 = p.2 in
-    (ap (λ (x : List ℕ). c.advance.new.tokens.items ++ tokens_of (map (λ k. k.now) c.advance.new.known.keys) (cut c.in_ok-next.next c.in_ok-next.more x)) (d ∙ ap (λ (y : List ℕ). drop 1 y) (sym f)) ∙ c.in_ok-next.ensures.tokens ∙ ap (λ (x : List ℕ). c.loop-at.tokens.items ++ tokens_of (map (λ k. k.now) c.loop-at.known.keys) (cut c.loop-at.place c.loop-at.inside x)) f ∙ i.0,
-        ap (λ (x : List ℕ). names_of (map (λ k. k.now) c.advance.new.known.keys) (cut c.in_ok-next.next c.in_ok-next.more x)) (d ∙ ap (λ (y : List ℕ). drop 1 y) (sym f)) ∙ c.in_ok-next.ensures.names ∙ ap (λ (x : List ℕ). names_of (map (λ k. k.now) c.loop-at.known.keys) (cut c.loop-at.place c.loop-at.inside x)) f ∙ i.1,
-        omega arith,
-        omega arith,
-        omega arith,
-        omega arith,
-        omega arith)
+    let p0 = p.0 in let p1 = p.1 in let p2 = p.2 in (
+      ap (λ (x : List ℕ). c.advance.new.tokens.items ++ tokens_of (map (λ k. k.now) c.advance.new.known.keys) (cut c.in_ok-next.next c.in_ok-next.more x)) (d ∙ ap (λ (y : List ℕ). drop 1 y) (sym f)) ∙ c.in_ok-next.ensures.tokens ∙ ap (λ (x : List ℕ). c.loop-at.tokens.items ++ tokens_of (map (λ k. k.now) c.loop-at.known.keys) (cut c.loop-at.place c.loop-at.inside x)) f ∙ i.0,
+      ap (λ (x : List ℕ). names_of (map (λ k. k.now) c.advance.new.known.keys) (cut c.in_ok-next.next c.in_ok-next.more x)) (d ∙ ap (λ (y : List ℕ). drop 1 y) (sym f)) ∙ c.in_ok-next.ensures.names ∙ ap (λ (x : List ℕ). names_of (map (λ k. k.now) c.loop-at.known.keys) (cut c.loop-at.place c.loop-at.inside x)) f ∙ i.1,
+      omega arith,
+      omega arith,
+      omega arith,
+      omega arith,
+      omega arith,
+    )

@@ -1,4 +1,4 @@
-use Rattle.std.proofs.Common.{◌≡◌, ◌∙◌, ap, map, Bor, List, ℕ}
+use Rattle.std.proofs.Common.{◌∙◌, ap, map}
 use Rattle.std.specs.Str.{bytes_eq}
 use Rattle.l2_small_lex.proofs.Keys.{position_map, insert_map}
 use Rattle.l2_small_lex.proofs.names.number.Goals as goal
