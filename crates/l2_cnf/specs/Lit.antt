@@ -16,7 +16,7 @@ abbrev pub positive : ℤ → Bool
 positive (pos n) = true
 positive (negsuc n) = false
 
--- a literal of these is a literal: it isn't 0
+-- a whole number is a literal: it isn't 0
 abbrev pub IsLiteral : ℤ → Type 0
 IsLiteral l = 1 ≤ nat_abs l
 

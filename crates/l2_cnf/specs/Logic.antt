@@ -1,16 +1,17 @@
 -- Clauses as lists of literals, models, unit propagation and what follows by it.
 use Rattle.std.specs.Prelude.{◌≡◌, ◌≢◌, ◌⊎◌, ℕ, suc, ◌≤◌, Bool, true, false, not, ℤ, pos, negsuc, neg_ℤ, nat_abs, List, Contains}
 use Rattle.std.proofs.Common.{zero}
+use Rattle.l2_cnf.specs.Lit.{IsLiteral}
 
--- a literal is true where the variables have these values
+-- a literal is true where the variables have these values; 0 is no literal, and never true
 abbrev pub literal_true : (ℕ → Bool) → ℤ → Bool
 literal_true v (pos zero) = false
 literal_true v (pos (suc n)) = v (suc n)
 literal_true v (negsuc n) = not (v (suc n))
 
--- none of these is 0
+-- these are literals
 abbrev pub AreLiterals : List ℤ → Type 0
-AreLiterals clause = (l : ℤ) → Contains clause l → 1 ≤ nat_abs l
+AreLiterals clause = (l : ℤ) → Contains clause l → IsLiteral l
 
 -- the variables of these literals are at most this
 abbrev pub IsWithin : ℕ → List ℤ → Type 0

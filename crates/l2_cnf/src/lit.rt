@@ -1,11 +1,13 @@
-ghost use Rattle.std.specs.Prelude.{◌≡◌, ◌≢◌, ◌≤◌, ◌<◌, ◌^◌, ◌+◌, ◌*◌, ◌↔◌, ℕ, ℤ, pos, negsuc, neg_ℤ, nat_abs, IsTrue, true, eqb};
-ghost use Rattle.l2_cnf.specs.Lit.{code_of, literal_of, positive as sign_of, IsLiteral};
+ghost use Rattle.std.specs.Prelude.{◌≡◌, ◌≤◌, ◌<◌, ◌^◌, neg_ℤ, nat_abs};
+ghost use Rattle.l2_cnf.specs.Lit.{code_of, positive as sign_of};
 
 use std::marker::Model;
 
-/// A literal: twice its variable, and one more where it is negative.
+/// A literal: a variable or its negation, in 8 bytes. Contracts see a nonzero whole number, negative for a negation.
+/// Literals are ordered by variable, the positive one first.
 #[derive(Debug, PartialEq, Eq, PartialOrd, Ord, Hash)]
 pub struct Lit {
+    // Twice the variable, and one more where it is negative.
     code: u64,
 }
 
@@ -46,9 +48,7 @@ impl Lit {
             code: if positive { 2 * var } else { 2 * var + 1 },
         }
     }
-}
 
-impl Lit {
     pub fn negated(self) -> Lit
         ensures { result ≡ neg_ℤ self }
     {

@@ -1,4 +1,4 @@
-ghost use Rattle.std.specs.Prelude.{◌≡◌, ◌≤◌, ◌++◌, [], ℕ, ℤ, Bool, List, nat_abs, Contains};
+ghost use Rattle.std.specs.Prelude.{◌++◌, [], ℕ, ℤ, Bool, List, Contains};
 ghost use Rattle.l2_cnf.specs.Logic.{AreLiterals, HasTrue, Satisfies, Follows, IsAbsorbed, Settles};
 ghost use Rattle.l2_cnf.specs.Steps.{Step, IsDerivation, clauses_of};
 

@@ -1,11 +1,12 @@
-ghost use Rattle.std.specs.Prelude.{◌≡◌, ◌≤◌, ◌<◌, ◌^◌, ◌+◌, ◌-◌, ◌++◌, ◌∷◌, [], ℕ, ℤ, pos, neg_ℤ, nat_abs, List, length, take, IfOk, IsTrue, ◌↔◌, Contains, slice_index_or};
-ghost use Rattle.l2_cnf.specs.Trail.{Path, AreOver, AreApart};
+ghost use Rattle.std.specs.Prelude.{◌≡◌, ◌≤◌, ◌<◌, ◌+◌, ◌-◌, ◌++◌, ◌∷◌, [], ℤ, pos, neg_ℤ, nat_abs, length, take, IfOk, IsTrue, ◌↔◌, Contains, slice_index_or};
+ghost use Rattle.l2_cnf.specs.Trail.{AreOver, AreApart};
 
 use crate::{Assignment, Lit};
 use std::alloc::{AllocError, Global};
 use std::marker::Model;
 
-/// Literals that are true, in the order in which they became so. It takes memory only when it is made.
+/// Literals that are true, in the order in which they became so. It takes memory only when it is made, and each call
+/// but `clear` costs the same whatever the trail holds.
 #[derive(Drop)]
 pub struct Trail {
     literals: Vec<Lit>,
@@ -33,6 +34,7 @@ impl Trail {
         Ok(Trail { literals, values })
     }
 
+    /// How many literals are true. Besides, it tells that they are literals of distinct variables.
     pub fn len(&self) -> usize
         ensures len { result ≡ length self.now.literals }
         ensures most { result ≤ self.now.variables }
@@ -63,6 +65,7 @@ impl Trail {
         self.is_true(literal.negated())
     }
 
+    /// Whether a variable has a value.
     pub fn has(&self, var: u64) -> bool
         requires { var ≤ self.now.variables }
         ensures { IsTrue result ↔ ((l : ℤ) × (Contains self.now.literals l) × (nat_abs l ≡ var)) }
@@ -86,6 +89,7 @@ impl Trail {
         }
     }
 
+    /// Makes a literal true whose variable has no value.
     pub fn push(&mut self, literal: Lit)
         requires over { nat_abs literal ≤ self.old.variables }
         requires new { (m : ℤ) → Contains self.old.literals m → nat_abs m ≡ nat_abs literal → ⊥ }
@@ -99,6 +103,7 @@ impl Trail {
         }
     }
 
+    /// Takes the last literal out.
     pub fn pop(&mut self)
         requires { 0 < length self.old.literals }
         ensures literals { self.new.literals ≡ take (length self.old.literals - 1) self.old.literals }

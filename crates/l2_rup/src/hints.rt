@@ -1,6 +1,6 @@
-ghost use Rattle.std.specs.Prelude.{◌≡◌, ◌≢◌, ◌≤◌, ◌<◌, ◌^◌, ◌+◌, ◌-◌, ◌++◌, ◌∷◌, [], ℕ, ℤ, pos, neg_ℤ, nat_abs, List, map, length, take, IfOk, IsTrue, ◌↔◌, Contains, slice_index_or, MatchOption, MatchBool};
+ghost use Rattle.std.specs.Prelude.{◌≡◌, ◌≢◌, ◌≤◌, ◌<◌, ◌+◌, ◌++◌, ◌∷◌, [], ℕ, ℤ, pos, neg_ℤ, map, length, IsTrue, ◌↔◌, Contains, slice_index_or, MatchOption, MatchBool};
 ghost use Rattle.std.specs.Bool.{OnTrue, OnFalse};
-ghost use Rattle.l2_cnf.specs.Trail.{Path, AreOver, AreApart};
+ghost use Rattle.l2_cnf.specs.Trail.{AreOver, AreApart};
 ghost use Rattle.l2_cnf.specs.Steps.{IsAllFalse, IsUnit, Leads};
 ghost use Rattle.l2_cnf.specs.Logic.{IsWithin};
 ghost use Rattle.l2_rup.specs.Checked.{known_of};

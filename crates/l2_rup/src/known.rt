@@ -1,4 +1,4 @@
-ghost use Rattle.std.specs.Prelude.{◌≡◌, ◌≤◌, ◌<◌, ◌^◌, ◌+◌, ◌++◌, ◌∷◌, [], ℕ, ℤ, Bool, List, length, IfOk, OnOk, OnErr, IsTrue, ◌↔◌, slice_index_or, Contains};
+ghost use Rattle.std.specs.Prelude.{◌≡◌, ◌≤◌, ◌<◌, ◌^◌, ◌∷◌, [], ℕ, Bool, length, IfOk, OnOk, OnErr, IsTrue, ◌↔◌, slice_index_or};
 ghost use Rattle.std.specs.Bool.{OnTrue};
 ghost use Rattle.l2_cnf.specs.Logic.{IsWithin, AllWithin, Satisfies, HasTrue};
 ghost use Rattle.l2_cnf.specs.Steps.{EndsEmpty};
