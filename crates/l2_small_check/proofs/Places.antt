@@ -18,7 +18,7 @@ place_of-push (p ∷ rest) (suc n) = place_of-push rest n
 
 pub ruleset places = (place_of-push)
 
-is_declared_more : (objects : List ObjectInfo) (o : ObjectInfo) (m : ℕ) → is_declared (objects ++ o ∷ []) m ≡ (is_declared objects m || o.name == m)
+pub is_declared_more : (objects : List ObjectInfo) (o : ObjectInfo) (m : ℕ) → is_declared (objects ++ o ∷ []) m ≡ (is_declared objects m || o.name == m)
 is_declared_more [] o m = grind arith
 is_declared_more (p ∷ rest) o m = let r = is_declared_more rest o m in grind arith
 

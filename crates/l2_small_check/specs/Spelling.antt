@@ -1,5 +1,5 @@
 -- A program as a text again: each number is looked up in the program's lists, and says which name, loop or check it is.
-use Rattle.std.specs.Prelude.{ℕ, ◌-◌, pos, List, [], map, slice_index_or}
+use Rattle.std.specs.Prelude.{◌≡◌, ℕ, ◌-◌, pos, false, List, [], ◌∷◌, map, slice_index_or}
 use Rattle.l2_syntax.specs.declared.place.Place.{Place}
 use Rattle.l2_syntax.specs.declared.program.CellValue.TheVariants as cell
 use Rattle.l2_syntax.specs.declared.program.Kind.TheVariants.{Assertion}
@@ -10,7 +10,7 @@ use Rattle.l2_syntax.specs.Raw.{ExprTree, Name, Number, Choice, Parenthesised, U
 use Rattle.l2_syntax.specs.Checked as checked
 use Rattle.l2_syntax.specs.Checked.{TypedTree, CheckedTree, CheckedTrees}
 use Rattle.l2_syntax.specs.Programs.{ProgramTree, FunctionTree}
-use Rattle.l2_small_check.specs.Elaboration.{Found, variable}
+use Rattle.l2_small_check.specs.Elaboration.{Found, variable, is_declared}
 
 -- ---- texts without their parentheses and without the places of the words in their expressions
 
@@ -42,6 +42,11 @@ abbrev mutual
   plain_items (also all s) = also (plain_items all) (plain_item s)
 
 -- ---- programs
+
+-- no two objects have one name
+abbrev pub AreApart : List ObjectInfo → Type 0
+AreApart [] = Unit {0}
+AreApart (o ∷ rest) = (is_declared rest o.name ≡ false) × AreApart rest
 
 abbrev pub object_of : Found → ℕ → ObjectInfo
 object_of f o = slice_index_or f.objects (o - 1) (variable 0 nowhere)

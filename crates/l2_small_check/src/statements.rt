@@ -1,6 +1,6 @@
 // Statements.
 ghost use Rattle.std.specs.Prelude.{◌≡◌, Some, None, map, option_map, IfOk, IsErrOf};
-ghost use Rattle.l2_syntax.specs.Raw.{none, Initialise, expr_tree, stmt_tree, stmts_onto};
+ghost use Rattle.l2_syntax.specs.Raw.{none, Initialise, Assign, Assert, expr_tree, stmt_tree, stmts_onto};
 ghost use Rattle.l2_syntax.specs.Checked.{checked_tree};
 ghost use Rattle.l2_small_check.specs.Elaboration.{item, items, within, made, block};
 ghost use Rattle.l2_small_check.specs.Tables.{elaborated, Keeps};
@@ -30,6 +30,44 @@ fn initialise(
     Ok(Checked::Initialise(object, start))
 }
 
+/// `NAME = e;`.
+#[tactic(auto, using(crate::proofs::Steps::steps))]
+fn assign(
+    alloc: Global,
+    table: &Table,
+    name: u32,
+    place: Place,
+    e: &Expr,
+) -> Result<Checked, CheckError>
+    ensures ok { IfOk result (λ t. item table.now.scope table.now.found (Assign name place (expr_tree e.now)) ≡ Some (elaborated (checked_tree t) table.now)) }
+    ensures not_small { IsErrOf result CheckError.NotSmall → item table.now.scope table.now.found (Assign name place (expr_tree e.now)) ≡ None }
+{
+    match table.lookup(name) {
+        Some(object) => {
+            let value = typed(alloc, table, e)?;
+            assignment(alloc, object, value)
+        }
+        None => Err(CheckError::NotSmall),
+    }
+}
+
+/// `assert(e);`.
+#[tactic(auto, using(crate::proofs::Steps::steps, crate::proofs::Kept::kept))]
+fn assert_that(
+    alloc: Global,
+    table: &mut Table,
+    place: Place,
+    e: &Expr,
+) -> Result<Checked, CheckError>
+    ensures ok { IfOk result (λ t. item table.old.scope table.old.found (Assert place (expr_tree e.now)) ≡ Some (elaborated (checked_tree t) table.new)) }
+    ensures not_small { IsErrOf result CheckError.NotSmall → item table.old.scope table.old.found (Assert place (expr_tree e.now)) ≡ None }
+    ensures keeps { IfOk result (λ t. Keeps table.old.scope table.new.scope) }
+{
+    let test = typed(alloc, table, e)?;
+    let number = table.add_check(place)?;
+    assertion(alloc, number, test)
+}
+
 /// What a statement becomes.
 #[cycle(statements)]
 #[tactic(auto, using(crate::proofs::Steps::steps, crate::proofs::Kept::kept))]
@@ -45,13 +83,7 @@ fn item(alloc: Global, table: &mut Table, s: &Stmt) -> Result<Checked, CheckErro
             Ok(Checked::Declare(object))
         }
         Stmt::Initialise(name, place, e) => initialise(alloc, table, *name, *place, e),
-        Stmt::Assign(name, _, e) => match table.lookup(*name) {
-            Some(object) => {
-                let value = typed(alloc, table, e)?;
-                assignment(alloc, object, value)
-            }
-            None => Err(CheckError::NotSmall),
-        },
+        Stmt::Assign(name, place, e) => assign(alloc, table, *name, *place, e),
         Stmt::If(e, s) => {
             let test = typed(alloc, table, e)?;
             let body = within(alloc, table, s)?;
@@ -69,11 +101,7 @@ fn item(alloc: Global, table: &mut Table, s: &Stmt) -> Result<Checked, CheckErro
             let body = within(alloc, table, s)?;
             while_loop(alloc, number, test, body)
         }
-        Stmt::Assert(place, e) => {
-            let test = typed(alloc, table, e)?;
-            let number = table.add_check(*place)?;
-            assertion(alloc, number, test)
-        }
+        Stmt::Assert(place, e) => assert_that(alloc, table, *place, e),
         Stmt::Return(e) => {
             let value = typed(alloc, table, e)?;
             Ok(Checked::Return(value))

@@ -17,7 +17,9 @@ use l2_bits::{List, Ty};
 use l2_syntax::{CellType, Checked, FunctionInfo, Name, Place, Program, Unit};
 use std::alloc::Global;
 
-/// The program of a unit of the small form.
+/// The program of a unit of the small form: names stand for the objects that are in scope (C11 6.2.1), and objects, loops
+/// and checks are numbered from 1 in the order of the text. Its one function is `main`, whose name stands behind the
+/// unit's names. More loops, checks or names than a `u32` counts are want of memory.
 #[tactic(auto, using(crate::proofs::Steps::steps))]
 pub fn check(alloc: Global, unit: Unit) -> Result<Program, CheckError>
     ensures ok { IfOk result (λ p. program_of (unit_tree unit) ≡ Some (program_tree p)) }
