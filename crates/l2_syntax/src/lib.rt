@@ -6,6 +6,8 @@ mod place;
 mod program;
 mod raw;
 mod refusal;
+#[cfg(test)]
+mod tests;
 mod token;
 
 pub use checked::{Checked, Lvalue, Typed};
