@@ -4,11 +4,8 @@ use Rattle.std.proofs.lemmas.Int.{ints}
 use lib.IntN.{*ℤ_comm}
 use Rattle.l2_bits.specs.declared.types.Ty.{Ty}
 use Rattle.l2_bits.specs.Values.{modulus, wrap}
-use Rattle.l2_bits.proofs.Congruences.{Meet, meet_trans, meet_times}
+use Rattle.l2_bits.proofs.Congruences.{Meet, meet_add, meet_trans, meet_times}
 use Rattle.l2_bits.proofs.Wraps.{wrap-meet, wrap_same}
-
-meet_sum : (n : ℕ) (a b c d : ℤ) → Meet n a c → Meet n b d → Meet n (a +ℤ b) (c +ℤ d)
-meet_sum n a b c d p q = record { up_by = p.up_by + q.up_by; down_by = p.down_by + q.down_by; same = omega (arith, ints) }
 
 meet_difference : (n : ℕ) (a b c d : ℤ) → Meet n a c → Meet n b d → Meet n (a -ℤ b) (c -ℤ d)
 meet_difference n a b c d p q = record { up_by = p.up_by + q.down_by; down_by = p.down_by + q.up_by; same = omega (arith, ints) }
@@ -19,7 +16,7 @@ meet_product n a b c d p q =
     meet_trans n (a *ℤ b) (c *ℤ b) (c *ℤ d) (meet_times n a c b p) turned
 
 pub sum_of_wraps : (ty : Ty) (a b : ℤ) → wrap ty (wrap ty a +ℤ wrap ty b) ≡ wrap ty (a +ℤ b)
-sum_of_wraps ty a b = wrap_same ty (wrap ty a +ℤ wrap ty b) (a +ℤ b) (meet_sum (modulus ty) (wrap ty a) (wrap ty b) a b (wrap-meet ty a) (wrap-meet ty b))
+sum_of_wraps ty a b = wrap_same ty (wrap ty a +ℤ wrap ty b) (a +ℤ b) (meet_add (modulus ty) (wrap ty a) (wrap ty b) a b (wrap-meet ty a) (wrap-meet ty b))
 
 pub difference_of_wraps : (ty : Ty) (a b : ℤ) → wrap ty (wrap ty a -ℤ wrap ty b) ≡ wrap ty (a -ℤ b)
 difference_of_wraps ty a b = wrap_same ty (wrap ty a -ℤ wrap ty b) (a -ℤ b) (meet_difference (modulus ty) (wrap ty a) (wrap ty b) a b (wrap-meet ty a) (wrap-meet ty b))
