@@ -1,9 +1,9 @@
 -- A piece that begins at the first byte of a rest.
-use Rattle.std.proofs.Common.{◌≡◌, ◌≤◌, ◌-◌, ℕ, false, cond, List, [], ◌∷◌, ◌++◌, append_assoc, take, drop, length, get_or, sym, ap, ◌∙◌, arith}
+use Rattle.std.proofs.Common.{◌≡◌, ◌≤◌, ◌-◌, ℕ, zero, suc, false, cond, List, [], ◌∷◌, ◌++◌, append_assoc, take, drop, length, get_or, refl, sym, ap, ◌∙◌, arith}
 use Rattle.l2_syntax.specs.declared.place.Place.{Place}
 use Rattle.l2_small_lex.specs.declared.token.Token.{Token}
 use Rattle.l2_small_lex.specs.Bytes.{is_space}
-use Rattle.l2_small_lex.specs.Cutting.{behind, piece_length, Piece, cut}
+use Rattle.l2_small_lex.specs.Cutting.{behind, piece_length, Piece, cut, past}
 use Rattle.l2_small_lex.specs.Tokens.{token_of, with_piece, tokens_of, names_of}
 
 abbrev pub piece_of : List ℕ → Place → Piece
@@ -27,3 +27,9 @@ took_token before after known more x pieces all t a e m n =
 
 pub took_name : (known more : List (List ℕ)) (x : Piece) (pieces all : List Piece) → all ≡ x ∷ pieces → more ≡ with_piece known x → names_of more pieces ≡ names_of known all
 took_name known more x pieces all a m = ap (λ ks. names_of ks pieces) m ∙ ap (λ xs. names_of known xs) (sym a)
+
+pub cut_anew : (p : Place) (n : ℕ) (text : List ℕ) → cut p n text ≡ cut (past (take n text) p) 0 (drop n text)
+cut_anew p zero [] = refl
+cut_anew p (suc n) [] = refl
+cut_anew p zero (b ∷ text) = refl
+cut_anew p (suc n) (b ∷ text) = cut_anew (behind b p) n text

@@ -1,5 +1,5 @@
 -- How a text is cut into pieces: white space is passed over, and each piece is the longest that begins where it does (C11 6.4).
-use Rattle.std.specs.Prelude.{ℕ, zero, suc, ◌+◌, ◌-◌, cond, ◌==◌, List, [], ◌∷◌, take}
+use Rattle.std.specs.Prelude.{◌≡◌, ℕ, zero, suc, ◌+◌, ◌-◌, cond, ◌==◌, List, [], ◌∷◌, take, drop}
 use Rattle.std.specs.List.{prefix_len}
 use Rattle.l2_syntax.specs.declared.place.Place.{Place}
 use Rattle.l2_small_lex.specs.Bytes.{is_space, is_letter, is_digit, is_word_byte, is_number_byte}
@@ -28,3 +28,12 @@ cut p n [] = []
 cut p (suc n) (b ∷ text) = cut (behind b p) n text
 cut p zero (b ∷ text) =
     cond (is_space b) (cut (behind b p) 0 text) (record { bytes = take (piece_length (b ∷ text)) (b ∷ text); place = p } ∷ cut (behind b p) (piece_length (b ∷ text) - 1) text)
+
+-- the place behind some bytes
+abbrev pub past : List ℕ → Place → Place
+past [] p = p
+past (b ∷ w) p = past w (behind b p)
+
+-- behind the bytes that belong to a piece the text is cut anew
+abbrev pub CutLaw : Type 0
+CutLaw = (p : Place) (n : ℕ) (text : List ℕ) → cut p n text ≡ cut (past (take n text) p) 0 (drop n text)

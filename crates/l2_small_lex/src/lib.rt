@@ -7,6 +7,7 @@
 mod bytes;
 mod cut;
 mod kinds;
+mod laws;
 mod lexing;
 mod names;
 #[cfg(test)]
@@ -14,5 +15,6 @@ mod tests;
 mod token;
 mod words;
 
+pub use laws::cut_law;
 pub use lexing::{Lexed, lex};
 pub use token::Token;
