@@ -1,0 +1,4 @@
+pub mod Bytes
+pub mod Punctuators
+pub mod Fronts
+pub mod Pieces

@@ -1,0 +1,14 @@
+//! A text cut into its pieces: words, numbers, characters, string literals and punctuators, each with its place.
+#![tactic(auto)]
+
+mod bytes;
+mod comments;
+mod cut;
+mod fronts;
+mod piece;
+mod punctuators;
+mod quotes;
+
+pub use bytes::{is_digit, is_letter};
+pub use cut::{bytes_of, end_of, front_of, pieces, rest_of};
+pub use piece::{Front, Piece, PieceKind};
