@@ -111,6 +111,7 @@ fn cut_one(
     requires next { next ≡ behind (get_or rest.now 0 0) place }
     ensures parts { IfOk result (λ c. kept.new.items ++ filter is_solid (cond c.stopped [] (parts c.place c.inside (drop 1 rest.now))) ≡ kept.old.items ++ filter is_solid (parts place 0 rest.now)) }
     ensures place { IfOk result (λ c. c.place ≡ next) }
+    ensures few { OnOk result (length kept.new.items ≤ length kept.old.items + 1) }
 {
     let front = front(rest);
     if !is_blank(front.kind) {
@@ -143,6 +144,7 @@ fn advance(
     requires line { place.line ≤ 1048577 }
     requires col { place.col ≤ 1048577 }
     ensures parts { IfOk result (λ c. kept.new.items ++ filter is_solid (cond c.stopped [] (parts c.place c.inside (drop 1 rest.now))) ≡ kept.old.items ++ filter is_solid (parts place inside rest.now)) }
+    ensures few { OnOk result (length kept.new.items ≤ length kept.old.items + 1) }
     ensures place { IfOk result (λ c. (c.place.offset ≤ place.offset + 1) × (c.place.line ≤ place.line + 1) × (c.place.col ≤ place.col + 1)) }
 {
     let next = behind(rest[0], place);
@@ -160,7 +162,8 @@ fn advance(
 /// The pieces of a text but for white space and comments, up to the first fault, which is the last. Its one answer besides is want of memory.
 pub fn pieces(alloc: Global, text: &[u8]) -> Result<Vec<Piece>, AllocError>
     requires { length text.now ≤ 1048576 }
-    ensures { IfOk result (λ r. r.items ≡ pieces text.now) }
+    ensures pieces { IfOk result (λ r. r.items ≡ pieces text.now) }
+    ensures few { IfOk result (λ r. length r.items ≤ length text.now) }
 {
     let mut kept = Vec::new(alloc);
     let mut place = Place {

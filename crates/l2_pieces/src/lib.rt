@@ -12,3 +12,4 @@ mod quotes;
 pub use bytes::{is_digit, is_letter};
 pub use cut::{bytes_of, end_of, front_of, pieces, rest_of};
 pub use piece::{Front, Piece, PieceKind};
+pub use punctuators::mark_in;

@@ -62,7 +62,7 @@ const TRIPLE: [(&[u8], Mark); 3] = [
 ];
 
 /// The mark that is spelt so, if the table has one.
-fn mark_in(table: &[(&'static [u8], Mark)], word: &[u8]) -> Option<Mark>
+pub fn mark_in(table: &[(&'static [u8], Mark)], word: &[u8]) -> Option<Mark>
     ensures { result ≡ mark_in (map (λ e. spelt e.0.now e.1) table.now) word.now }
 {
     for spelling in table {

@@ -10,7 +10,7 @@ loop-at-preserved c =
     let f : c.rest_of.result.now ≡ drop c.loop-at.at c.args.text.now = c.rest_of.ensures in
     let i = c.loop-at.invariant in
     let p = c.in_ok-cursor.ensures.place in
-    let i1 = i.1 in let i2 = i.2 in let i3 = i.3 in
+    let i1 = i.1 in let i2 = i.2 in let i3 = i.3 in let i4 = i.4 in let n = c.in_ok-cursor.ensures.few in
     let p0 = p.0 in let p1 = p.1 in let p2 = p.2 in
     let kept = c.advance.new.kept.items in
     let cur = c.in_ok-cursor.cursor in (
@@ -18,6 +18,7 @@ loop-at-preserved c =
           ∙ ap (λ (b : Bool). kept ++ filter is_solid (cond b [] (parts cur.place cur.inside (drop 1 c.rest_of.result.now)))) (sym c.if-cursor.false)
           ∙ c.in_ok-cursor.ensures.parts
           ∙ ap (λ (x : List ℕ). c.loop-at.kept.items ++ filter is_solid (parts c.loop-at.place c.loop-at.inside x)) f ∙ i.0,
+      omega arith,
       omega arith,
       omega arith,
       omega arith,
