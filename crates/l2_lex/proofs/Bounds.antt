@@ -9,24 +9,24 @@ use Rattle.l2_syntax.specs.declared.refusal.Rule.TheVariants as rule
 use Rattle.l2_pieces.specs.declared.piece.PieceKind.{PieceKind}
 use Rattle.l2_pieces.specs.declared.piece.PieceKind.TheVariants as kind
 use Rattle.l2_pieces.specs.declared.piece.Piece.{Piece}
-use Rattle.l2_lex.specs.declared.constant.Constant.{Constant}
-use Rattle.l2_lex.specs.declared.role.Role.{Role}
-use Rattle.l2_lex.specs.declared.role.Role.TheVariants as role
-use Rattle.l2_lex.specs.declared.headers.Header.{Header}
-use Rattle.l2_lex.specs.declared.headers.Header.TheVariants as header
-use Rattle.l2_lex.specs.declared.directives.Directive.{Directive}
-use Rattle.l2_lex.specs.declared.directives.Directive.TheVariants as directive
-use Rattle.l2_lex.specs.declared.words.WordClass.{WordClass}
-use Rattle.l2_lex.specs.declared.words.WordClass.TheVariants as class
+use Rattle.l2_directives.specs.declared.constant.Constant.{Constant}
+use Rattle.l2_directives.specs.declared.role.Role.{Role}
+use Rattle.l2_directives.specs.declared.role.Role.TheVariants as role
+use Rattle.l2_directives.specs.declared.headers.Header.{Header}
+use Rattle.l2_directives.specs.declared.headers.Header.TheVariants as header
+use Rattle.l2_directives.specs.declared.directives.Directive.{Directive}
+use Rattle.l2_directives.specs.declared.directives.Directive.TheVariants as directive
+use Rattle.l2_directives.specs.declared.words.WordClass.{WordClass}
+use Rattle.l2_directives.specs.declared.words.WordClass.TheVariants as class
 use Rattle.l2_lex.specs.declared.state.Attribute.{Attribute}
 use Rattle.l2_lex.specs.declared.state.Attribute.TheVariants as attribute
 use Rattle.l2_lex.specs.declared.state.Typedef.{Typedef}
 use Rattle.l2_pieces.specs.Pieces.{bytes_of}
-use Rattle.l2_lex.specs.declared.role.Macro.{Macro}
-use Rattle.l2_lex.specs.Constants.{constant_of}
-use Rattle.l2_lex.specs.Words.{word_class}
-use Rattle.l2_lex.specs.Directives.{directive_of}
-use Rattle.l2_lex.specs.Headers.{Entry, entries}
+use Rattle.l2_directives.specs.declared.role.Macro.{Macro}
+use Rattle.l2_directives.specs.Constants.{constant_of}
+use Rattle.l2_directives.specs.Words.{word_class}
+use Rattle.l2_directives.specs.Directives.{directive_of}
+use Rattle.l2_directives.specs.Headers.{Entry, entries}
 use Rattle.l2_lex.specs.States.{State, emit, emit_all, is_known, with_name, know, learn, learn_all, ends_typedef, in_typedef, begins_typedef, typedef_behind, new_typedef, no_typedef, declare_all, pass_mark, role_of, number_of, macro_kinds}
 use Rattle.l2_lex.specs.Lexing.{Turn, goes, stops, name_as, known_name, name, pass, word, constant, token_of, is_open, is_close, attribute_behind, attributed, pass_line, include, become_macro, define, is_word_refused, defines_one, is_constant, is_passed, begins_directive, first_state, open_comment, comment_or, direct, directed, line_behind, step_on, step_unless, own_fault, step}
 use Rattle.l2_lex.specs.Code.{depth_of, Bounded}

@@ -13,21 +13,21 @@ use Rattle.l2_pieces.specs.declared.piece.PieceKind.{PieceKind}
 use Rattle.l2_pieces.specs.declared.piece.PieceKind.TheVariants as kind
 use Rattle.l2_pieces.specs.declared.piece.Piece.{Piece}
 use Rattle.l2_pieces.specs.Pieces.{pieces, bytes_of, behind_all, first_place}
-use Rattle.l2_lex.specs.declared.constant.Constant.{Constant}
-use Rattle.l2_lex.specs.declared.role.Role.{Role}
-use Rattle.l2_lex.specs.declared.role.Role.TheVariants as role
-use Rattle.l2_lex.specs.declared.role.Macro.{Macro}
-use Rattle.l2_lex.specs.declared.headers.Header.{Header}
-use Rattle.l2_lex.specs.declared.directives.Directive.{Directive}
-use Rattle.l2_lex.specs.declared.directives.Directive.TheVariants as directive
-use Rattle.l2_lex.specs.declared.words.WordClass.{WordClass}
-use Rattle.l2_lex.specs.declared.words.WordClass.TheVariants as class
+use Rattle.l2_directives.specs.declared.constant.Constant.{Constant}
+use Rattle.l2_directives.specs.declared.role.Role.{Role}
+use Rattle.l2_directives.specs.declared.role.Role.TheVariants as role
+use Rattle.l2_directives.specs.declared.role.Macro.{Macro}
+use Rattle.l2_directives.specs.declared.headers.Header.{Header}
+use Rattle.l2_directives.specs.declared.directives.Directive.{Directive}
+use Rattle.l2_directives.specs.declared.directives.Directive.TheVariants as directive
+use Rattle.l2_directives.specs.declared.words.WordClass.{WordClass}
+use Rattle.l2_directives.specs.declared.words.WordClass.TheVariants as class
 use Rattle.l2_lex.specs.declared.state.Attribute.{Attribute}
 use Rattle.l2_lex.specs.declared.state.Attribute.TheVariants as attribute
-use Rattle.l2_lex.specs.Constants.{number, constant_of}
-use Rattle.l2_lex.specs.Words.{word_class, is_refused}
-use Rattle.l2_lex.specs.Headers.{Entry, entries}
-use Rattle.l2_lex.specs.Directives.{directive_of}
+use Rattle.l2_directives.specs.Constants.{number, constant_of}
+use Rattle.l2_directives.specs.Words.{word_class, is_refused}
+use Rattle.l2_directives.specs.Headers.{Entry, entries}
+use Rattle.l2_directives.specs.Directives.{directive_of}
 use Rattle.l2_lex.specs.States.{State, emit, emit_all, number_kind, macro_kinds, number_of, role_of, know, set_role, learn_all, pass_mark, before_word, declare, no_typedef}
 
 -- the state behind a piece, and the refusal with which the text stops at it

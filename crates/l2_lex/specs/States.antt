@@ -9,15 +9,15 @@ use Rattle.l2_syntax.specs.declared.token.TokenKind.{TokenKind}
 use Rattle.l2_syntax.specs.declared.token.TokenKind.TheVariants as token
 use Rattle.l2_syntax.specs.declared.token.Token.{Token}
 use Rattle.l2_pieces.specs.declared.piece.Piece.{Piece}
-use Rattle.l2_lex.specs.declared.constant.Constant.{Constant}
-use Rattle.l2_lex.specs.declared.role.Role.{Role}
-use Rattle.l2_lex.specs.declared.role.Role.TheVariants as role
-use Rattle.l2_lex.specs.declared.role.Shape.{Shape}
-use Rattle.l2_lex.specs.declared.role.Shape.TheVariants as shape
-use Rattle.l2_lex.specs.declared.role.Macro.{Macro}
+use Rattle.l2_directives.specs.declared.constant.Constant.{Constant}
+use Rattle.l2_directives.specs.declared.role.Role.{Role}
+use Rattle.l2_directives.specs.declared.role.Role.TheVariants as role
+use Rattle.l2_directives.specs.declared.role.Shape.{Shape}
+use Rattle.l2_directives.specs.declared.role.Shape.TheVariants as shape
+use Rattle.l2_directives.specs.declared.role.Macro.{Macro}
 use Rattle.l2_lex.specs.declared.state.Attribute.{Attribute}
 use Rattle.l2_lex.specs.declared.state.Typedef.{Typedef}
-use Rattle.l2_lex.specs.Headers.{Entry}
+use Rattle.l2_directives.specs.Headers.{Entry}
 
 pub record State : Type 0 where
   -- the tokens, and the kind of the last one: `End` where there is none

@@ -2,7 +2,7 @@
 ghost use Rattle.std.specs.Prelude.{◌≡◌, ◌≤◌, ◌<◌, ◌+◌, ◌^◌, ◌++◌, ◌∷◌, [], cond, map, set, length, IfOk, OnOk};
 ghost use Rattle.l2_lex.specs.States.{number_of, with_name, with_role, role_of};
 
-use crate::role::Role;
+use l2_directives::Role;
 use indexmap::IndexSet;
 use std::alloc::AllocError;
 

@@ -1,7 +1,7 @@
 use Rattle.std.proofs.Common.{◌≡◌, ◌∙◌, [], sym, refl, map, ℕ, List, Bor}
-use Rattle.l2_lex.specs.declared.role.Role.{Role}
-use Rattle.l2_lex.specs.declared.role.Role.TheVariants as role
-use Rattle.l2_lex.specs.Headers.{entry}
+use Rattle.l2_directives.specs.declared.role.Role.{Role}
+use Rattle.l2_directives.specs.declared.role.Role.TheVariants as role
+use Rattle.l2_directives.specs.Headers.{entry}
 use Rattle.l2_lex.specs.Lexing.{is_defined, defines_one}
 use Rattle.l2_lex.specs.Code.{state_of}
 use Rattle.l2_lex.proofs.Keys.{found_at, passed_at}

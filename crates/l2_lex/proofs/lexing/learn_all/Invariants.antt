@@ -1,5 +1,5 @@
 use Rattle.std.proofs.Common.{◌≡◌, map, drop}
-use Rattle.l2_lex.specs.Headers.{entry}
+use Rattle.l2_directives.specs.Headers.{entry}
 use Rattle.l2_lex.specs.States.{learn_all}
 use Rattle.l2_lex.specs.Code.{state_of}
 use Rattle.l2_lex.proofs.lexing.learn_all.Given as goal

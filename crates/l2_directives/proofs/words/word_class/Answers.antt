@@ -1,10 +1,10 @@
 use Rattle.std.proofs.Common.{◌≡◌, ◌∙◌, sym, ap, Bool, false, cond, codes}
 use Rattle.std.specs.Str.{bytes_eq}
 use Rattle.l2_pieces.specs.Punctuators.{mark_in}
-use Rattle.l2_lex.specs.declared.words.WordClass.TheVariants as class
-use Rattle.l2_lex.specs.Constants.{is_among}
-use Rattle.l2_lex.specs.Words.{refused, skipped, keywords, keyword_or_name}
-use Rattle.l2_lex.proofs.words.word_class.Goals as goal
+use Rattle.l2_directives.specs.declared.words.WordClass.TheVariants as class
+use Rattle.l2_directives.specs.Constants.{is_among}
+use Rattle.l2_directives.specs.Words.{refused, skipped, keywords, keyword_or_name}
+use Rattle.l2_directives.proofs.words.word_class.Goals as goal
 
 fourth : {A : Type 0} (a b d : Bool) (w x y z r : A) → a ≡ false → b ≡ false → d ≡ false → r ≡ z → r ≡ cond a w (cond b x (cond d y z))
 fourth a b d w x y z r p q s e = e ∙ sym (ap (λ v. cond v w (cond b x (cond d y z))) p ∙ ap (λ v. cond v x (cond d y z)) q ∙ ap (λ v. cond v y z) s)

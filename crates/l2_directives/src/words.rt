@@ -2,8 +2,8 @@
 ghost use Rattle.std.specs.Prelude.{◌≡◌, codes};
 ghost use Rattle.std.specs.Str.{bytes_eq};
 ghost use Rattle.l2_pieces.specs.Punctuators.{mark_in};
-ghost use Rattle.l2_lex.specs.Constants.{is_among};
-ghost use Rattle.l2_lex.specs.Words.{refused, skipped, keywords, keyword_or_name, word_class, is_name, is_refused};
+ghost use Rattle.l2_directives.specs.Constants.{is_among};
+ghost use Rattle.l2_directives.specs.Words.{refused, skipped, keywords, keyword_or_name, word_class, is_name, is_refused};
 
 use l2_pieces::mark_in;
 use l2_syntax::Mark;

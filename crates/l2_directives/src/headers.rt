@@ -1,6 +1,6 @@
 // The headers, and what each makes known.
 ghost use Rattle.std.specs.Prelude.{◌≡◌, map};
-ghost use Rattle.l2_lex.specs.Headers.{entry, header_of, entries};
+ghost use Rattle.l2_directives.specs.Headers.{entry, header_of, entries};
 
 use crate::constant::Constant;
 use crate::role::Role;

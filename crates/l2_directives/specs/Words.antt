@@ -4,9 +4,9 @@ use Rattle.std.specs.Str.{bytes_eq}
 use Rattle.l2_syntax.specs.declared.token.Mark.{Mark}
 use Rattle.l2_syntax.specs.declared.token.Mark.TheVariants as mark
 use Rattle.l2_pieces.specs.Punctuators.{Spelling, spelt, mark_in}
-use Rattle.l2_lex.specs.declared.words.WordClass.{WordClass}
-use Rattle.l2_lex.specs.declared.words.WordClass.TheVariants as class
-use Rattle.l2_lex.specs.Constants.{is_among}
+use Rattle.l2_directives.specs.declared.words.WordClass.{WordClass}
+use Rattle.l2_directives.specs.declared.words.WordClass.TheVariants as class
+use Rattle.l2_directives.specs.Constants.{is_among}
 
 -- keywords of C11 and words of compilers that the profile leaves out
 abbrev pub refused : List (List ℕ)

@@ -1,7 +1,7 @@
 use Rattle.std.proofs.Common.{◌≡◌, ◌≤◌, ◌+◌, ◌*◌, ◌^◌, ◌∙◌, get_or, arith}
-use Rattle.l2_lex.proofs.Numbers.{overflowed, past}
-use Rattle.l2_lex.specs.Constants.{digit_value, value_of}
-use Rattle.l2_lex.proofs.constant.value_of.Goals as goal
+use Rattle.l2_directives.proofs.Numbers.{overflowed, past}
+use Rattle.l2_directives.specs.Constants.{digit_value, value_of}
+use Rattle.l2_directives.proofs.constant.value_of.Goals as goal
 
 pub returns-in-None-clause-great : goal.returns-in-None-clause-great
 returns-in-None-clause-great c =

@@ -4,9 +4,9 @@ use Rattle.std.proofs.Math.Dec.{leb}
 use Rattle.std.proofs.lemmas.List.{drop_more}
 use Rattle.l2_syntax.specs.declared.token.Scalar.{Scalar}
 use Rattle.l2_syntax.specs.declared.token.Scalar.TheVariants as scalar
-use Rattle.l2_lex.specs.declared.constant.Constant.{Constant}
-use Rattle.l2_lex.specs.declared.constant.Suffix.{Suffix}
-use Rattle.l2_lex.specs.Constants.{digit_value, greatest, first_that_holds, candidates, constant_of_type, typed}
+use Rattle.l2_directives.specs.declared.constant.Constant.{Constant}
+use Rattle.l2_directives.specs.declared.constant.Suffix.{Suffix}
+use Rattle.l2_directives.specs.Constants.{digit_value, greatest, first_that_holds, candidates, constant_of_type, typed}
 
 abbrev pub next_value : ℕ → ℕ → ℕ → ℕ
 next_value base v d = v * base + digit_value d

@@ -10,9 +10,9 @@ use Rattle.l2_pieces.specs.declared.piece.PieceKind.TheVariants as kind
 use Rattle.l2_pieces.specs.declared.piece.Piece.{Piece}
 use Rattle.l2_pieces.specs.Bytes.{is_digit, begins_with, is_byte}
 use Rattle.l2_pieces.specs.Pieces.{bytes_of}
-use Rattle.l2_lex.specs.declared.constant.Constant.{Constant}
-use Rattle.l2_lex.specs.declared.constant.Suffix.{Suffix}
-use Rattle.l2_lex.specs.declared.constant.Suffix.TheVariants as suffix
+use Rattle.l2_directives.specs.declared.constant.Constant.{Constant}
+use Rattle.l2_directives.specs.declared.constant.Suffix.{Suffix}
+use Rattle.l2_directives.specs.declared.constant.Suffix.TheVariants as suffix
 
 -- the value of a hexadecimal digit, and 16 for any other byte
 abbrev pub digit_value : ℕ → ℕ

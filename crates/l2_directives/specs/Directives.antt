@@ -5,16 +5,16 @@ use Rattle.l2_pieces.specs.declared.piece.PieceKind.{PieceKind}
 use Rattle.l2_pieces.specs.declared.piece.PieceKind.TheVariants as kind
 use Rattle.l2_pieces.specs.declared.piece.Piece.{Piece}
 use Rattle.l2_pieces.specs.Pieces.{bytes_of}
-use Rattle.l2_lex.specs.declared.constant.Constant.{Constant}
-use Rattle.l2_lex.specs.declared.role.Shape.{Shape}
-use Rattle.l2_lex.specs.declared.role.Shape.TheVariants as shape
-use Rattle.l2_lex.specs.declared.role.Macro.{Macro}
-use Rattle.l2_lex.specs.declared.headers.Header.{Header}
-use Rattle.l2_lex.specs.declared.directives.Directive.{Directive}
-use Rattle.l2_lex.specs.declared.directives.Directive.TheVariants as directive
-use Rattle.l2_lex.specs.Constants.{constant_of}
-use Rattle.l2_lex.specs.Words.{word_class, is_name}
-use Rattle.l2_lex.specs.Headers.{header_of}
+use Rattle.l2_directives.specs.declared.constant.Constant.{Constant}
+use Rattle.l2_directives.specs.declared.role.Shape.{Shape}
+use Rattle.l2_directives.specs.declared.role.Shape.TheVariants as shape
+use Rattle.l2_directives.specs.declared.role.Macro.{Macro}
+use Rattle.l2_directives.specs.declared.headers.Header.{Header}
+use Rattle.l2_directives.specs.declared.directives.Directive.{Directive}
+use Rattle.l2_directives.specs.declared.directives.Directive.TheVariants as directive
+use Rattle.l2_directives.specs.Constants.{constant_of}
+use Rattle.l2_directives.specs.Words.{word_class, is_name}
+use Rattle.l2_directives.specs.Headers.{header_of}
 
 abbrev pub is_spelt : List ℕ → Piece → List ℕ → Bool
 is_spelt text x w = bytes_eq (bytes_of text x) w

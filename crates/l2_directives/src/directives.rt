@@ -1,6 +1,6 @@
 // Lines that begin with `#`.
 ghost use Rattle.std.specs.Prelude.{◌≡◌, ◌≤◌, ◌∷◌, []};
-ghost use Rattle.l2_lex.specs.Directives.{is_spelt, is_number, is_word, shaped, macro_of, define_as, opens_behind, define, last_of, bytes_from, include_header, include, is_marker, directive_of};
+ghost use Rattle.l2_directives.specs.Directives.{is_spelt, is_number, is_word, shaped, macro_of, define_as, opens_behind, define, last_of, bytes_from, include_header, include, is_marker, directive_of};
 
 use crate::constant::{Constant, constant_of};
 use crate::headers::{Header, header_of};

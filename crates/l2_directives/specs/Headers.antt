@@ -3,10 +3,10 @@ use Rattle.std.specs.Prelude.{ℕ, ℤ, pos, negsuc, cond, Option, None, Some, L
 use Rattle.std.specs.Str.{bytes_eq}
 use Rattle.l2_syntax.specs.declared.token.Scalar.{Scalar}
 use Rattle.l2_syntax.specs.declared.token.Scalar.TheVariants as scalar
-use Rattle.l2_lex.specs.declared.role.Role.{Role}
-use Rattle.l2_lex.specs.declared.role.Role.TheVariants as role
-use Rattle.l2_lex.specs.declared.headers.Header.{Header}
-use Rattle.l2_lex.specs.declared.headers.Header.TheVariants as header
+use Rattle.l2_directives.specs.declared.role.Role.{Role}
+use Rattle.l2_directives.specs.declared.role.Role.TheVariants as role
+use Rattle.l2_directives.specs.declared.headers.Header.{Header}
+use Rattle.l2_directives.specs.declared.headers.Header.TheVariants as header
 
 -- a name that a header makes known, and what it is from there on
 pub record Entry : Type 0 where

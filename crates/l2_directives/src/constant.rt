@@ -2,7 +2,7 @@
 ghost use Rattle.std.specs.Prelude.{◌≡◌, ◌≤◌, ◌<◌, ◌^◌, pos, length, IfSome, IfNone, true, false};
 ghost use Rattle.std.specs.List.{prefix_len};
 ghost use Rattle.l2_pieces.specs.Bytes.{begins_with, is_byte};
-ghost use Rattle.l2_lex.specs.Constants.{digit_value, is_digit_of, value_of, is_among, suffix_of, candidates, greatest, first_that_holds, constant_of_type, typed, in_base, is_hexadecimal, number, escape_value, character_value, constant_of};
+ghost use Rattle.l2_directives.specs.Constants.{digit_value, is_digit_of, value_of, is_among, suffix_of, candidates, greatest, first_that_holds, constant_of_type, typed, in_base, is_hexadecimal, number, escape_value, character_value, constant_of};
 
 use l2_pieces::{Piece, PieceKind, bytes_of, front_of, is_digit, rest_of};
 use l2_syntax::Scalar;
