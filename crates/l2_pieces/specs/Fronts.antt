@@ -72,13 +72,10 @@ longest_punctuator text =
 
 -- what begins with a slash, by the text behind it
 abbrev pub slash : List ℕ → Front
-slash text =
-    cond (begins_with (is_byte 47) text) (comment (Some (1 + prefix_len is_in_line text)) (47 ∷ text))
-    (cond (begins_with (is_byte 42) text) (comment (closed_comment false 2 (behind_first text)) (47 ∷ text)) (longest_punctuator (47 ∷ text)))
-  where
-    behind_first : List ℕ → List ℕ
-    behind_first [] = []
-    behind_first (b ∷ rest) = rest
+slash [] = longest_punctuator (47 ∷ [])
+slash (b ∷ text) =
+    cond (b == 47) (comment (Some (1 + prefix_len is_in_line (b ∷ text))) (47 ∷ b ∷ text))
+    (cond (b == 42) (comment (closed_comment false 2 text) (47 ∷ b ∷ text)) (longest_punctuator (47 ∷ b ∷ text)))
 
 abbrev pub begins_number : ℕ → List ℕ → Bool
 begins_number b text = is_digit b || b == 46 && begins_with is_digit text

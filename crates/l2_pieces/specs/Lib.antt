@@ -2,3 +2,4 @@ pub mod Bytes
 pub mod Punctuators
 pub mod Fronts
 pub mod Pieces
+pub mod Laws
