@@ -1,10 +1,9 @@
 -- Values past every type.
-use Rattle.std.proofs.Common.{◌≡◌, ◌≤◌, ◌<◌, ◌+◌, ◌*◌, ◌^◌, ℕ, Bool, false, cond, Option, None, Some, List, [], ◌∷◌, fold, length, drop, get_or, refl, sym, ◌==◌, ap, ◌∙◌, arith}
+use Rattle.std.proofs.Common.{◌≡◌, ◌≤◌, ◌<◌, ◌+◌, ◌*◌, ◌^◌, ℕ, false, cond, Option, None, Some, List, [], ◌∷◌, fold, length, drop, get_or, refl, sym, ◌==◌, ap, ◌∙◌, arith}
 use Rattle.std.proofs.Math.Dec.{leb}
 use Rattle.std.proofs.lemmas.List.{drop_more}
 use Rattle.l2_syntax.specs.declared.token.Scalar.{Scalar}
 use Rattle.l2_syntax.specs.declared.token.Scalar.TheVariants as scalar
-use Rattle.l2_directives.specs.declared.constant.Constant.{Constant}
 use Rattle.l2_directives.specs.declared.constant.Suffix.{Suffix}
 use Rattle.l2_directives.specs.Constants.{digit_value, greatest, first_that_holds, candidates, constant_of_type, typed}
 

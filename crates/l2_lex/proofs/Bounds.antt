@@ -1,5 +1,5 @@
 -- How far the counts of a state grow at a piece.
-use Rattle.std.proofs.Common.{◌≡◌, ◌≤◌, ◌+◌, ◌-◌, ◌==◌, ◌++◌, ℕ, Bool, true, false, cond, Option, None, Some, List, [], ◌∷◌, length, length-append, refl, sym, ap, ◌∙◌, arith}
+use Rattle.std.proofs.Common.{◌≡◌, ◌≤◌, ◌+◌, ◌-◌, ◌==◌, ◌++◌, ℕ, Bool, true, false, cond, Option, None, Some, List, [], ◌∷◌, length, length-append, refl, ap, arith}
 use Rattle.l2_syntax.specs.declared.token.Mark.{Mark}
 use Rattle.l2_syntax.specs.declared.token.Mark.TheVariants as mark
 use Rattle.l2_syntax.specs.declared.token.TokenKind.{TokenKind}
@@ -27,8 +27,8 @@ use Rattle.l2_directives.specs.Constants.{constant_of}
 use Rattle.l2_directives.specs.Words.{word_class}
 use Rattle.l2_directives.specs.Directives.{directive_of}
 use Rattle.l2_directives.specs.Headers.{Entry, entries}
-use Rattle.l2_lex.specs.States.{State, emit, emit_all, is_known, with_name, know, learn, learn_all, ends_typedef, in_typedef, begins_typedef, typedef_behind, new_typedef, no_typedef, declare_all, pass_mark, role_of, number_of, macro_kinds}
-use Rattle.l2_lex.specs.Lexing.{Turn, goes, stops, name_as, known_name, name, pass, word, constant, token_of, is_open, is_close, attribute_behind, attributed, pass_line, include, become_macro, define, is_word_refused, defines_one, is_constant, is_passed, begins_directive, first_state, open_comment, comment_or, direct, directed, line_behind, step_on, step_unless, own_fault, step}
+use Rattle.l2_lex.specs.States.{State, emit, emit_all, is_known, know, learn, learn_all, ends_typedef, in_typedef, begins_typedef, typedef_behind, new_typedef, no_typedef, declare_all, pass_mark, role_of, number_of, macro_kinds}
+use Rattle.l2_lex.specs.Lexing.{Turn, goes, stops, name_as, name, pass, word, constant, token_of, is_open, is_close, attributed, pass_line, include, become_macro, define, is_word_refused, defines_one, is_constant, is_passed, begins_directive, first_state, open_comment, comment_or, direct, directed, line_behind, step_on, step_unless, own_fault, step}
 use Rattle.l2_lex.specs.Code.{depth_of, Bounded}
 
 pub record Grows (k : ℕ) (s t : State) : Type 0 where

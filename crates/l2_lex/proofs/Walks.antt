@@ -1,10 +1,10 @@
 -- One piece more.
-use Rattle.std.proofs.Common.{◌≡◌, ◌≤◌, ◌+◌, ◌*◌, ◌∷◌, List, Option, None, Some, ℕ, sym, ap, subst, ◌∙◌, arith}
+use Rattle.std.proofs.Common.{◌≡◌, ◌+◌, ◌*◌, ◌∷◌, List, Option, None, Some, ℕ, sym, ap, subst, ◌∙◌, arith}
 use Rattle.l2_syntax.specs.declared.place.Place.{Place}
 use Rattle.l2_syntax.specs.declared.refusal.Refusal.{Refusal}
 use Rattle.l2_pieces.specs.declared.piece.Piece.{Piece}
 use Rattle.l2_lex.specs.States.{State}
-use Rattle.l2_lex.specs.Lexing.{Turn, Lexed, lexed, ends, lex, step}
+use Rattle.l2_lex.specs.Lexing.{Turn, lexed, ends, lex, step}
 use Rattle.l2_lex.specs.Code.{Bounded}
 use Rattle.l2_lex.proofs.Bounds.{step_bounded, wide_bounded}
 

@@ -1,5 +1,5 @@
 -- The state that the code keeps, as definitions speak of it.
-use Rattle.std.specs.Prelude.{ℕ, ◌≤◌, ◌-◌, ◌^◌, Option, List, map, length}
+use Rattle.std.specs.Prelude.{ℕ, ◌≤◌, ◌-◌, ◌^◌, Option, map, length}
 use Rattle.l2_syntax.specs.declared.refusal.Refusal.{Refusal}
 use Rattle.l2_syntax.specs.declared.token.Tokens.{Tokens}
 use Rattle.l2_lex.specs.declared.state.Lexer.{Lexer}

@@ -1,5 +1,5 @@
 -- The tokens of a text, piece by piece.
-use Rattle.std.specs.Prelude.{ℕ, zero, suc, ◌+◌, ◌-◌, Bool, true, false, not, cond, ◌==◌, ◌||◌, ◌&&◌, Option, None, Some, List, [], ◌∷◌, ◌++◌, take}
+use Rattle.std.specs.Prelude.{ℕ, ◌+◌, ◌-◌, Bool, true, false, not, cond, ◌==◌, ◌&&◌, Option, None, Some, List, [], ◌∷◌, ◌++◌, take}
 use Rattle.std.specs.List.{prefix_len}
 use Rattle.l2_syntax.specs.declared.place.Place.{Place}
 use Rattle.l2_syntax.specs.declared.token.Mark.{Mark}

@@ -1,8 +1,7 @@
 -- What is known of a text at a place in it, and how a token changes it.
-use Rattle.std.specs.Prelude.{ℕ, ◌+◌, ◌-◌, Bool, true, false, not, cond, ◌==◌, ◌||◌, ◌&&◌, Option, None, Some, List, [], ◌∷◌, ◌++◌, fold, set, get_or, length}
+use Rattle.std.specs.Prelude.{ℕ, ◌+◌, ◌-◌, Bool, true, false, not, cond, ◌==◌, ◌&&◌, List, [], ◌∷◌, ◌++◌, set, get_or}
 use Rattle.std.specs.List.{list_any, position_or_len}
 use Rattle.std.specs.Str.{bytes_eq}
-use Rattle.l2_syntax.specs.declared.place.Place.{Place}
 use Rattle.l2_syntax.specs.declared.token.Mark.{Mark}
 use Rattle.l2_syntax.specs.declared.token.Mark.TheVariants as mark
 use Rattle.l2_syntax.specs.declared.token.TokenKind.{TokenKind}

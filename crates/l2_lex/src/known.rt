@@ -2,8 +2,8 @@
 ghost use Rattle.std.specs.Prelude.{◌≡◌, ◌≤◌, ◌<◌, ◌+◌, ◌^◌, ◌++◌, ◌∷◌, [], cond, map, set, length, IfOk, OnOk};
 ghost use Rattle.l2_lex.specs.States.{number_of, with_name, with_role, role_of};
 
-use l2_directives::Role;
 use indexmap::IndexSet;
+use l2_directives::Role;
 use std::alloc::AllocError;
 
 /// The names by number, each once, and what each is.

@@ -9,16 +9,15 @@ ghost use Rattle.l2_lex.specs.States.{State, emit, emit_all, number_kind, macro_
 ghost use Rattle.l2_lex.specs.Lexing.{goes, stops, name_as, known_name, name, pass, word, constant, token_of, is_open, is_close, attribute_behind, is_word_refused, attributed, is_macro, is_constant, is_defined, defines_one, pass_line, include, become_macro, define, is_open_comment, open_comment, direct, is_passed, directed, is_hash, is_inside, begins_directive, is_on_line, line_behind, own_fault, step_on, step, Turn, lexed, is_outside, finish, first_state, lex, tokens_of, comment_or};
 ghost use Rattle.l2_lex.specs.Code.{state_of, turn_of, lexed_of, Bounded, many};
 
-use l2_directives::{Constant, constant_of, number};
-use l2_directives::{Directive, directive_of};
-use l2_directives::{Header, entries};
 use crate::known::{Known, know, role, role_of_word, set_role};
 use crate::marks::{before_word, declares, ends_typedef, typedef_behind};
-use l2_directives::{Macro, Role, Shape};
 use crate::state::{Attribute, Lexer, Typedef};
-use l2_directives::{WordClass, is_refused, word_class};
 use indexmap::IndexSet;
 use l2_bits::List;
+use l2_directives::{
+    Constant, Directive, Header, Macro, Role, Shape, WordClass, constant_of, directive_of, entries,
+    is_refused, number, word_class,
+};
 use l2_pieces::{Piece, PieceKind, bytes_of, end_of, pieces};
 use l2_syntax::{Mark, Name, Place, Refusal, Rule, Token, TokenKind, Tokens};
 use std::alloc::{AllocError, Global};

@@ -5,7 +5,6 @@ mod known;
 mod lexing;
 mod marks;
 mod state;
-
 #[cfg(test)]
 mod tests;
 

@@ -488,7 +488,10 @@ fn stops_at_the_first_fault(rt: HostRuntime) -> Result<(), Fail> {
             let read = tokens(rt.alloc(), row.0)?;
             match read.stop {
                 Some(refusal) => {
-                    assert_eq!(rt; (row.0, refusal.place.line, refusal.place.col), (row.0, row.1, row.2));
+                    assert_eq!(rt;
+                        (row.0, refusal.place.line, refusal.place.col),
+                        (row.0, row.1, row.2)
+                    );
                     assert_eq!(rt; (row.0, refusal.rule), (row.0, row.3));
                 }
                 None => assert_eq!(rt; (row.0, row.1), (row.0, 0)),
@@ -518,11 +521,7 @@ fn has_place(list: &[Token], at: usize, offset: u32, line: u32, col: u32, length
     match list.get(at) {
         None => false,
         Some(token) => {
-            let place = Place {
-                offset,
-                line,
-                col,
-            };
+            let place = Place { offset, line, col };
             token.place == place && token.length == length
         }
     }

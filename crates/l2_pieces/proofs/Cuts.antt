@@ -1,8 +1,8 @@
 -- Pieces stand one behind another.
-use Rattle.std.proofs.Common.{◌≡◌, ◌≤◌, ◌<◌, ◌+◌, ◌-◌, ◌==◌, ◌&&◌, ◌||◌, not, ℕ, zero, suc, Bool, true, false, cond, Option, None, Some, List, [], ◌∷◌, length, take, drop, codes, refl, sym, ap, subst, ◌∙◌, arith}
+use Rattle.std.proofs.Common.{◌≡◌, ◌≤◌, ◌<◌, ◌+◌, ◌-◌, ◌==◌, ◌&&◌, not, ℕ, zero, suc, Bool, true, false, cond, Option, None, Some, List, [], ◌∷◌, length, take, drop, refl, sym, ap, subst, ◌∙◌, arith}
 use Rattle.std.proofs.lemmas.List.{length-take, length-drop}
 use Rattle.std.proofs.lemmas.List.Sums.{prefix_len-le-length}
-use Rattle.std.specs.List.{prefix_len, filter}
+use Rattle.std.specs.List.{prefix_len}
 use Rattle.std.specs.Str.{bytes_eq}
 use Rattle.l2_syntax.specs.declared.place.Place.{Place}
 use Rattle.l2_syntax.specs.declared.token.Mark.{Mark}
@@ -11,11 +11,11 @@ use Rattle.l2_pieces.specs.declared.piece.PieceKind.{PieceKind}
 use Rattle.l2_pieces.specs.declared.piece.PieceKind.TheVariants as kind
 use Rattle.l2_pieces.specs.declared.piece.Front.{Front}
 use Rattle.l2_pieces.specs.declared.piece.Piece.{Piece}
-use Rattle.l2_pieces.specs.Bytes.{is_space, is_letter, is_word_byte, is_number_byte, is_in_line, begins_with, is_byte}
+use Rattle.l2_pieces.specs.Bytes.{is_space, is_letter, is_word_byte, is_number_byte, is_in_line}
 use Rattle.l2_pieces.specs.Punctuators.{Spelling, mark_in, single, double, triple}
 use Rattle.l2_pieces.specs.Fronts.{front_of, closed_comment, is_splice, unspliced, comment, closed_string, string, is_plain_character, is_escaped_character, character, punctuator, longest_punctuator, slash, begins_number, front}
-use Rattle.l2_pieces.specs.Pieces.{behind, behind_all, first_place, is_fault, is_solid, piece_of, parts, pieces}
-use Rattle.l2_pieces.specs.Laws.{Covers, end, fault, piece, line_ends, last_line, place_behind, CutLaw, PlaceLaw}
+use Rattle.l2_pieces.specs.Pieces.{behind, behind_all, first_place, is_fault, piece_of, parts}
+use Rattle.l2_pieces.specs.Laws.{Covers, end, fault, piece, line_ends, last_line, CutLaw, PlaceLaw}
 
 -- a front that is no fault has at least one byte, and no more than the text
 record Sound (f : Front) (n : ℕ) : Type 0 where
@@ -167,8 +167,8 @@ escaped_long (b ∷ c ∷ q ∷ text) e = omega arith
 sound_character : (text : List ℕ) → Sound (character text) (1 + length text)
 sound_character text =
     either (is_plain_character text) (front_of kind.Character 3) (cond (is_escaped_character text) (front_of kind.Character 4) (front_of (kind.Fault rule.Literal) 1)) (1 + length text)
-      (λ e. sound kind.Character 3 (1 + length text) (omega arith) (plain_long text e))
-      (λ e. either (is_escaped_character text) (front_of kind.Character 4) (front_of (kind.Fault rule.Literal) 1) (1 + length text) (λ h. sound kind.Character 4 (1 + length text) (omega arith) (escaped_long text h)) (λ h. faulty rule.Literal 1 (1 + length text)))
+    (λ e. sound kind.Character 3 (1 + length text) (omega arith) (plain_long text e))
+    (λ e. either (is_escaped_character text) (front_of kind.Character 4) (front_of (kind.Fault rule.Literal) 1) (1 + length text) (λ h. sound kind.Character 4 (1 + length text) (omega arith) (escaped_long text h)) (λ h. faulty rule.Literal 1 (1 + length text)))
 
 closed_long : (m n : ℕ) → Fits 2 m (2 + n) → (1 ≤ m) × (m ≤ 1 + suc n)
 closed_long m n f = let a = f.from in let b = f.to in (omega arith, omega arith)
@@ -180,10 +180,10 @@ sound_slash : (text : List ℕ) → Sound (slash text) (1 + length text)
 sound_slash [] = sound_longest (47 ∷ [])
 sound_slash (b ∷ text) =
     either (b == 47) (comment (Some (1 + prefix_len is_in_line (b ∷ text))) (47 ∷ b ∷ text)) (cond (b == 42) (comment (closed_comment false 2 text) (47 ∷ b ∷ text)) (longest_punctuator (47 ∷ b ∷ text))) (1 + length (b ∷ text))
-      (λ e. sound_comment (Some (1 + prefix_len is_in_line (b ∷ text))) (b ∷ text) (λ m h. line_long (prefix_len is_in_line (b ∷ text)) m (length (b ∷ text)) h (prefix_len-le-length is_in_line (b ∷ text))))
-      (λ e. either (b == 42) (comment (closed_comment false 2 text) (47 ∷ b ∷ text)) (longest_punctuator (47 ∷ b ∷ text)) (1 + length (b ∷ text))
-        (λ h. sound_comment (closed_comment false 2 text) (b ∷ text) (λ m g. closed_long m (length text) (comment_fits false 2 text m g)))
-        (λ h. widen (longest_punctuator (47 ∷ b ∷ text)) (sound_longest (47 ∷ b ∷ text))))
+    (λ e. sound_comment (Some (1 + prefix_len is_in_line (b ∷ text))) (b ∷ text) (λ m h. line_long (prefix_len is_in_line (b ∷ text)) m (length (b ∷ text)) h (prefix_len-le-length is_in_line (b ∷ text))))
+    (λ e. either (b == 42) (comment (closed_comment false 2 text) (47 ∷ b ∷ text)) (longest_punctuator (47 ∷ b ∷ text)) (1 + length (b ∷ text))
+    (λ h. sound_comment (closed_comment false 2 text) (b ∷ text) (λ m g. closed_long m (length text) (comment_fits false 2 text m g)))
+    (λ h. widen (longest_punctuator (47 ∷ b ∷ text)) (sound_longest (47 ∷ b ∷ text))))
   where
     widen : (f : Front) → Sound f (length (47 ∷ b ∷ text)) → Sound f (1 + length (b ∷ text))
     widen f s = record { some = s.some; within = λ e. let h = s.within e in omega arith }
@@ -206,16 +206,22 @@ sound_front b text =
   where
     n : ℕ
     n = 1 + length text
+
     f5 : Front
     f5 = cond (b == 34) (string (closed_string false 1 text)) (longest_punctuator (b ∷ text))
+
     f4 : Front
     f4 = cond (b == 39) (character text) f5
+
     f3 : Front
     f3 = cond (b == 47) (slash text) f4
+
     f2 : Front
     f2 = cond (begins_number b text) (front_of kind.Number (1 + prefix_len is_number_byte text)) f3
+
     f1 : Front
     f1 = cond (is_letter b) (front_of kind.Word (1 + prefix_len is_word_byte text)) f2
+
     widen : (f : Front) → Sound f (length (b ∷ text)) → Sound f (1 + length text)
     widen f s = record { some = s.some; within = λ e. let h = s.within e in omega arith }
 

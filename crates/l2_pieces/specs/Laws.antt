@@ -1,9 +1,9 @@
 -- What it means that a text is cut into pieces.
-use Rattle.std.specs.Prelude.{◌≡◌, ◌≤◌, ◌+◌, ◌==◌, ℕ, Bool, true, cond, List, [], ◌∷◌, length, take, drop}
+use Rattle.std.specs.Prelude.{◌≡◌, ◌≤◌, ◌+◌, ◌==◌, ℕ, true, cond, List, [], ◌∷◌, length, take, drop}
 use Rattle.std.specs.List.{filter}
 use Rattle.l2_syntax.specs.declared.place.Place.{Place}
 use Rattle.l2_pieces.specs.declared.piece.Piece.{Piece}
-use Rattle.l2_pieces.specs.Pieces.{behind_all, first_place, is_fault, is_solid, parts, pieces}
+use Rattle.l2_pieces.specs.Pieces.{behind_all, first_place, is_fault, is_solid, pieces}
 
 -- The pieces of a text that stands at a place: each has at least one byte and begins where the one before it ends, and they
 -- reach to the end of the text or to a fault, which is the last.

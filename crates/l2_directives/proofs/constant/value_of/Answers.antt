@@ -1,4 +1,4 @@
-use Rattle.std.proofs.Common.{◌≡◌, ◌≤◌, ◌+◌, ◌*◌, ◌^◌, ◌∙◌, get_or, arith}
+use Rattle.std.proofs.Common.{◌≡◌, ◌+◌, ◌*◌, ◌∙◌, get_or, arith}
 use Rattle.l2_directives.proofs.Numbers.{overflowed, past}
 use Rattle.l2_directives.specs.Constants.{digit_value, value_of}
 use Rattle.l2_directives.proofs.constant.value_of.Goals as goal

@@ -1,7 +1,6 @@
-use Rattle.std.proofs.Common.{◌≡◌, ◌∙◌, sym, ap, map, not, cond, Bool, true, false, Bor, List, [], ◌∷◌, ◌++◌, ℕ, refl}
+use Rattle.std.proofs.Common.{◌≡◌, ◌∙◌, ap, map, not, cond, Bool, true, false, Bor, List, [], ◌∷◌, ◌++◌, ℕ}
 use Rattle.std.specs.Str.{bytes_eq}
 use Rattle.std.specs.List.{list_any}
-use Rattle.l2_directives.specs.declared.role.Role.{Role}
 use Rattle.l2_directives.specs.declared.role.Role.TheVariants as role
 use Rattle.l2_lex.proofs.Keys.{position_map, insert_map, any_map}
 use Rattle.l2_lex.proofs.known.know.Goals as goal

@@ -1,4 +1,4 @@
-use Rattle.std.proofs.Common.{◌≡◌, ◌∙◌, sym, ap, map, ℕ, List, Bor}
+use Rattle.std.proofs.Common.{◌∙◌, sym, ℕ, List, Bor}
 use Rattle.std.specs.Str.{bytes_eq}
 use Rattle.l2_lex.proofs.Keys.{position_map, absent, present}
 use Rattle.l2_lex.proofs.known.number_of.Goals as goal

@@ -1,4 +1,4 @@
-use Rattle.std.proofs.Common.{◌≡◌, ◌∙◌, [], sym, refl, map, ℕ, List, Bor}
+use Rattle.std.proofs.Common.{◌∙◌, [], sym, refl, map, ℕ, List, Bor}
 use Rattle.l2_directives.specs.declared.role.Role.{Role}
 use Rattle.l2_directives.specs.declared.role.Role.TheVariants as role
 use Rattle.l2_directives.specs.Headers.{entry}

@@ -1,9 +1,9 @@
-use Rattle.std.proofs.Common.{◌≡◌, ◌+◌, ◌∙◌, sym, ap, ℕ, List, drop}
+use Rattle.std.proofs.Common.{◌≡◌, ◌+◌, ◌∙◌, sym, ap, List, drop}
 use Rattle.l2_pieces.specs.Pieces.{behind_all, first_place}
 use Rattle.l2_pieces.specs.declared.piece.Piece.{Piece}
-use Rattle.l2_lex.specs.Lexing.{lex, step, tokens_of, Turn}
-use Rattle.l2_lex.specs.Code.{state_of, turn_of, Bounded}
-use Rattle.l2_lex.proofs.Walks.{walked_on, stopped, bounded_on}
+use Rattle.l2_lex.specs.Lexing.{lex, step}
+use Rattle.l2_lex.specs.Code.{state_of, turn_of}
+use Rattle.l2_lex.proofs.Walks.{walked_on, bounded_on}
 use Rattle.l2_lex.proofs.lexing.tokens.Goals as goal
 
 pub loop-at-preserved : goal.loop-at-preserved

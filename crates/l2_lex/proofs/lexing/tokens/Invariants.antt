@@ -1,4 +1,4 @@
-use Rattle.std.proofs.Common.{◌≡◌, ◌+◌, ◌*◌, drop}
+use Rattle.std.proofs.Common.{◌≡◌, ◌*◌, drop}
 use Rattle.l2_pieces.specs.Pieces.{behind_all, first_place}
 use Rattle.l2_lex.specs.Lexing.{lex, tokens_of}
 use Rattle.l2_lex.specs.Code.{state_of, Bounded}
