@@ -2,10 +2,12 @@
 #![tactic(auto)]
 
 mod known;
+mod laws;
 mod lexing;
 mod marks;
 mod state;
 #[cfg(test)]
 mod tests;
 
+pub use laws::tokens_law;
 pub use lexing::tokens;
