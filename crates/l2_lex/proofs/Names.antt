@@ -208,7 +208,7 @@ includes h x s =
 defines : (w : List ℕ) (m : Macro) (x : Piece) (s : State) → Keeps s (define w m x s).state
 defines w m x s =
     turns_at (is_constant (role_of s.roles (number_of s.names w))) s (stops rule.Directive x s) (goes (pass_line x (become_macro w m s))) (stays s)
-      (record { keeps = λ g. let k = (knows w s).keeps g in record { names = k.names; words = k.words } })
+    (record { keeps = λ g. let k = (knows w s).keeps g in record { names = k.names; words = k.words } })
 
 directs : (d : Directive) (text : List ℕ) (x : Piece) (s : State) → Keeps s (direct d text x s).state
 directs directive.Passed text x s = record { keeps = λ g. record { names = g.names; words = g.words } }
@@ -226,9 +226,9 @@ steps_on text x rest s =
     let d = directive_of text line in
     let u = record s { line = x.place.line } in
     turns_at (x.place.line == s.passed) s (goes s) (cond (begins_directive x s) (directed d text x line s) (attributed s.attribute text x u)) (stays s)
-      (turns_at (begins_directive x s) s (directed d text x line s) (attributed s.attribute text x u)
-        (turns_at (is_passed d) s (direct d text x s) (comment_or (open_comment line) (direct d text x s) s) (directs d text x s) (commented (open_comment line) (direct d text x s) s (directs d text x s)))
-        (record { keeps = λ g. (attributes s.attribute text x u).keeps (record { names = g.names; words = g.words }) }))
+    (turns_at (begins_directive x s) s (directed d text x line s) (attributed s.attribute text x u)
+    (turns_at (is_passed d) s (direct d text x s) (comment_or (open_comment line) (direct d text x s) s) (directs d text x s) (commented (open_comment line) (direct d text x s) s (directs d text x s)))
+    (record { keeps = λ g. (attributes s.attribute text x u).keeps (record { names = g.names; words = g.words }) }))
 
 steps_unless : (r : Option Rule) (text : List ℕ) (x : Piece) (rest : List Piece) (s : State) → Keeps s (step_unless r text x rest s).state
 steps_unless None text x rest s = steps_on text x rest s
