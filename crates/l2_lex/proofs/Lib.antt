@@ -1,0 +1,4 @@
+pub mod Keys
+pub mod Bounds
+pub mod Walks
+pub mod Names

@@ -1,0 +1,4 @@
+pub mod States
+pub mod Lexing
+pub mod Code
+pub mod Laws

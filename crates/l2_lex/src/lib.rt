@@ -1,0 +1,13 @@
+//! The tokens of a text, with their places: words, type names, constants, string literals and marks.
+#![tactic(auto)]
+
+mod known;
+mod laws;
+mod lexing;
+mod marks;
+mod state;
+#[cfg(test)]
+mod tests;
+
+pub use laws::tokens_law;
+pub use lexing::tokens;
