@@ -1,0 +1,7 @@
+pub mod Bools
+pub mod Ends
+pub mod Nests
+pub mod Fed
+pub mod Whole
+pub mod Kept
+pub mod Reading

@@ -1,0 +1,2 @@
+//! The grammar of the language, and what reading is.
+#![tactic(auto)]
