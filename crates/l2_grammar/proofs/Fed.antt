@@ -98,12 +98,20 @@ fed (child a c) f ks m =
     fed a f.0 ks (spell c m) ∙ ap (λ x. after a ks x) l.leads ∙ settle a f.0 ks l.first l.rest (inr (inl b))
     ∙ starts a c ks m f.2 l ∙ ap (λ x. feed x (begin (sort c)) (a ∷ ks)) (sym l.leads) ∙ fed c f.1 (a ∷ ks) m
 
+fresh_stands : stands unit fresh ≡ true
+unfolding stands
+fresh_stands = refl
+
+unit_stands : (a : Tree) → Fits a → sort a ≡ unit → stands unit (state a) ≡ true
+unit_stands (begin s) f e = fresh_stands
+unit_stands (token a t) f e = subst (λ s. stands s (state (token a t)) ≡ true) e f.1
+unit_stands (child a c) f e = subst (λ s. stands s (state (child a c)) ≡ true) e f.3
+
 pub fed_unit : (u : Tree) → IsUnit u → feed (spell u []) (begin unit) [] ≡ Reads u
 fed_unit (begin s) i = absurd (cc)
 fed_unit (token a t) i =
     ap (λ s. feed (spell a (t ∷ [])) (begin s) []) (sym i.sorted) ∙ fed (token a t) i.fits [] [] ∙ ap (λ q. finished q (token a t)) i.ended
-fed_unit (child a c) i =
-    absurd (no_last_child (state a) (outcome (state c)) (subst (λ s. stands s (on_child s (state a) (outcome (state c))) ≡ true) i.sorted i.fits.3) (ap (λ s. on_child s (state a) (outcome (state c))) (sym i.sorted) ∙ i.ended))
+fed_unit (child a c) i = absurd (no_last_child (state a) (outcome (state c)) (unit_stands a i.fits.0 i.sorted) (ap (λ s. on_child s (state a) (outcome (state c))) (sym i.sorted) ∙ i.ended))
 
 pub reads : (ts : List Seen) (u : Tree) → Spells ts u → feed ts (begin unit) [] ≡ Reads u
 reads ts u s = ap (λ x. feed x (begin unit) []) (sym s.spelled) ∙ fed_unit u s.whole

@@ -10,8 +10,8 @@ use Rattle.l2_grammar.specs.Trees.{Seen, Tree, begin, token, child, spell, sort,
 use Rattle.l2_grammar.specs.Reader.{Next, Stop, To, takes, begins, step, Verdict, Stops, Reads, finished, finish, on_next, feed}
 use Rattle.l2_grammar.specs.Law.{IsUnit, Spells}
 use Rattle.l2_grammar.proofs.Bools.{cond_true, cond_false, no}
-use Rattle.l2_grammar.proofs.Nests.{no_unit}
-use Rattle.l2_grammar.proofs.Whole.{done, Completed, complete, taken_whole, unit_state}
+use Rattle.l2_grammar.proofs.Nests.{no_unit, unit_state}
+use Rattle.l2_grammar.proofs.Whole.{done, Completed, complete, taken_whole}
 
 -- what was read for the constructs round it, and then more
 abbrev pub before : List Tree → List Seen → List Seen

@@ -1,4 +1,5 @@
 pub mod Bools
+pub mod Tokens
 pub mod Ends
 pub mod Nests
 pub mod Fed

@@ -5,25 +5,144 @@ use Rattle.l2_syntax.specs.declared.token.Mark.TheVariants as mark
 use Rattle.l2_syntax.specs.declared.token.TokenKind.{TokenKind}
 use Rattle.l2_syntax.specs.declared.token.TokenKind.TheVariants as kind
 use Rattle.l2_grammar.specs.Marks.{is}
-use Rattle.l2_grammar.specs.Networks.{on_token, on, continued, wants_left, level_of, wanted_by}
-use Rattle.l2_grammar.specs.Nesting.{opens, outcome, on_child, stands, values, least, value_at, is_unit}
+use Rattle.l2_grammar.specs.Networks.{on_token, on, continued, wants_left, level_of, wanted_by, after_type, applied, indexed}
+use Rattle.l2_grammar.specs.Nesting.{opens, outcome, on_child, stands, values, least, value_at, is_unit, naming, own_naming, grouped, takes_type}
 use Rattle.l2_grammar.specs.Reader.{takes, begins}
+use Rattle.l2_grammar.proofs.Bools.{cond_true, cond_false, no}
+use Rattle.l2_grammar.proofs.Tokens.{is_mark, on_or, on_only, on_two, on_not, none_stands}
 use Rattle.l2_grammar.specs.States.{Naming, named, optional, absent, Sort, unit, external, item, for_first, member, parameter, declarator, enclosed, operand, inside, sizeof_operand, initialiser, nowhere, Right, binary, assignment, conditional, cast, prefix, update, Storage, automatic, stored, typedef, Length, no_length, short, long, long_long, Core, no_core, int, char, Named, number, nothing, other, struct_tag, enum_tag, tagged, Shape, nameless, name_only, function, derived, State, none, fresh, unit_end, have, right, sizing, sized, paren, paren_close, typed_close, index, index_close, call, call_more, call_next, member_name, quest, quest_close, word, block, if_open, if_test, if_close, then_part, then_done, else_part, head_open, head_test, head_close, body, do_body, do_while, do_open, do_test, do_close, for_open, for_init, for_init_close, for_second, for_second_close, for_third, for_close, case_value, colon, returning, semicolon, statement, before_type, typed, struct_word, enum_word, members, enumerators, enumerator, enum_value, enum_value_close, enum_comma, declared, init_value, init_close, next_declarator, declaration_end, function_block, braces, brace_more, brace_next, braced, stars, stars_const, group, group_close, direct, size, size_close, parameters, parameters_more, parameters_next, Outcome, unfinished, value, stated, declaration, type, declares}
+
+pub nowhere_stands : (q : State) → stands nowhere q ≡ false
+unfolding stands
+nowhere_stands none = refl
+nowhere_stands q = refl
+
+abbrev closing_mark : Mark → Bool
+closing_mark mark.CloseParenthesis = true
+closing_mark mark.CloseBracket = true
+closing_mark mark.Semicolon = true
+closing_mark m = false
+
+-- the mark that ends a construct doesn't begin one in it
+mark_apart : (s t : Sort) (m : Mark) (x : State) (k : TokenKind) → takes t fresh (kind.Mark m) ≡ false → takes t fresh k ≡ true → stands s (on m x k none) ≡ false
+mark_apart s t m x k f e = on_not s m x k (λ i. no (subst (λ z. takes t fresh z ≡ true) i e) f)
+
+group_apart : (n : Naming) → takes (grouped n) fresh (kind.Mark mark.CloseParenthesis) ≡ false
+unfolding stands on_token
+group_apart named = refl
+group_apart n = refl
+
+unit_apart : (k : TokenKind) → takes external fresh k ≡ true → takes unit fresh k ≡ false
+unfolding stands on_token
+unit_apart kind.End e = absurd (cc)
+unit_apart k e = refl
+
+fresh_apart : (s : Sort) (k : TokenKind) → takes (cond (is_unit s) external nowhere) fresh k ≡ true → takes s fresh k ≡ false
+fresh_apart unit k e = unit_apart k e
+fresh_apart s k e = absurd (no e (nowhere_stands _))
+
+type_apart : (s : Sort) (w : Storage) (y : Named) (n : Naming) (k : TokenKind) → takes (declarator n) fresh k ≡ true → stands s (after_type s w y k) ≡ false
+unfolding stands on_token
+type_apart s w y n k e = ?
+
+operand_closed : (l : ℕ) (m : Mark) → closing_mark m ≡ true → takes (operand l) fresh (kind.Mark m) ≡ false
+unfolding stands on_token
+operand_closed l mark.CloseParenthesis e = refl
+operand_closed l mark.CloseBracket e = refl
+operand_closed l mark.Semicolon e = refl
+operand_closed l m e = absurd (cc)
+
+closing : (takes (item true) fresh (kind.Mark mark.CloseBrace) ≡ false) × (takes for_first fresh (kind.Mark mark.Semicolon) ≡ false) × (takes member fresh (kind.Mark mark.CloseBrace) ≡ false) × (takes initialiser fresh (kind.Mark mark.CloseBrace) ≡ false) × (takes parameter fresh (kind.Mark mark.CloseParenthesis) ≡ false)
+unfolding stands on_token is
+closing = (refl, refl, refl, refl, refl)
 
 -- where a construct begins with a token, the one round it doesn't go on with it
 pub begins_apart : (s : Sort) (q : State) (k : TokenKind) → begins s q k ≡ true → takes s q k ≡ false
-begins_apart s q k e = ?
+unfolding opens on_token
+begins_apart s fresh k e = fresh_apart s k e
+begins_apart s (right r) k e = none_stands s
+begins_apart s sizing k e = none_stands s
+begins_apart s paren k e = none_stands s
+begins_apart s index k e = none_stands s
+begins_apart s call k e = mark_apart s (operand 2) mark.CloseParenthesis (have 16) k (operand_closed 2 mark.CloseParenthesis refl) e
+begins_apart s call_next k e = none_stands s
+begins_apart s quest k e = none_stands s
+begins_apart s block k e = mark_apart s (item true) mark.CloseBrace (statement true) k closing.0 e
+begins_apart s if_test k e = none_stands s
+begins_apart s then_part k e = none_stands s
+begins_apart s else_part k e = none_stands s
+begins_apart s head_test k e = none_stands s
+begins_apart s body k e = none_stands s
+begins_apart s do_body k e = none_stands s
+begins_apart s do_test k e = none_stands s
+begins_apart s for_init k e = mark_apart s for_first mark.Semicolon for_second k closing.1 e
+begins_apart s for_second k e = mark_apart s (operand 1) mark.Semicolon for_third k (operand_closed 1 mark.Semicolon refl) e
+begins_apart s for_third k e = mark_apart s (operand 1) mark.CloseParenthesis body k (operand_closed 1 mark.CloseParenthesis refl) e
+begins_apart s case_value k e = none_stands s
+begins_apart s returning k e = mark_apart s (operand 1) mark.Semicolon (statement true) k (operand_closed 1 mark.Semicolon refl) e
+begins_apart s (typed w y) k e = type_apart s w y (naming s) k e
+begins_apart s (members w) k e = mark_apart s member mark.CloseBrace (typed w tagged) k closing.2 e
+begins_apart s (enum_value w) k e = none_stands s
+begins_apart s (init_value w) k e = none_stands s
+begins_apart s (next_declarator w) k e = none_stands s
+begins_apart s function_block k e = mark_apart s (item true) mark.CloseBrace declaration_end k closing.0 e
+begins_apart s braces k e = none_stands s
+begins_apart s brace_next k e = mark_apart s initialiser mark.CloseBrace braced k closing.3 e
+begins_apart s (group b) k e = mark_apart s (grouped (own_naming s)) mark.CloseParenthesis (direct b nameless) k (group_apart (own_naming s)) e
+begins_apart s (size b h) k e = mark_apart s (operand 1) mark.CloseBracket (direct b (indexed h)) k (operand_closed 1 mark.CloseBracket refl) e
+begins_apart s (parameters b h) k e = mark_apart s parameter mark.CloseParenthesis (direct b (applied h true)) k closing.4 e
+begins_apart s (parameters_next b h c) k e = none_stands s
+begins_apart s q k e = absurd (no e (nowhere_stands _))
+
+paren_unit : (b : Bool) → is_unit (cond b inside (operand 1)) ≡ false
+paren_unit true = refl
+paren_unit false = refl
+
+fresh_unit : (s : Sort) → is_unit (cond (is_unit s) external nowhere) ≡ false
+fresh_unit unit = refl
+fresh_unit s = refl
+
+group_unit : (n : Naming) → is_unit (grouped n) ≡ false
+group_unit named = refl
+group_unit n = refl
 
 pub no_unit : (s : Sort) (q : State) → is_unit (opens s q) ≡ false
-no_unit s q = ?
+unfolding opens
+no_unit s fresh = fresh_unit s
+no_unit s paren = paren_unit (takes_type s)
+no_unit s (group b) = group_unit (own_naming s)
+no_unit s q = refl
 
 -- only a unit begins with a construct
 pub first_child : (s : Sort) (o : Outcome) → is_unit s ≡ false → stands s (on_child s fresh o) ≡ true → ⊥
-first_child s o u e = ?
+unfolding on_child stands
+first_child s declaration u e = no e u
+first_child s o u e = absurd (cc)
 
 pub child_begun : (s : Sort) (q : State) → stands s (on_child s q (outcome fresh)) ≡ true → ⊥
-child_begun s q e = ?
+unfolding on_child outcome stands
+child_begun s fresh e = absurd (cc)
+child_begun s q e = absurd (cc)
+
+pub unit_state : (q : State) → stands unit q ≡ true → (q ≡ fresh) ⊎ (q ≡ unit_end)
+unfolding stands
+unit_state fresh h = inl refl
+unit_state unit_end h = inr refl
+unit_state q h = absurd (cc)
+
+at_start : (o : Outcome) → on_child unit fresh o ≡ unit_end → ⊥
+unfolding on_child
+at_start declaration f = absurd (cc)
+at_start o f = absurd (cc)
+
+at_end : (o : Outcome) → on_child unit unit_end o ≡ unit_end → ⊥
+unfolding on_child
+at_end o f = absurd (cc)
 
 -- a unit ends behind a token
-pub no_last_child : (q : State) (o : Outcome) → stands unit (on_child unit q o) ≡ true → on_child unit q o ≡ unit_end → ⊥
-no_last_child q o e f = ?
+pub no_last_child : (q : State) (o : Outcome) → stands unit q ≡ true → on_child unit q o ≡ unit_end → ⊥
+no_last_child q o h f = go (unit_state q h)
+  where
+    go : (q ≡ fresh) ⊎ (q ≡ unit_end) → ⊥
+    go (inl e) = at_start o (ap (λ z. on_child unit z o) (sym e) ∙ f)
+    go (inr e) = at_end o (ap (λ z. on_child unit z o) (sym e) ∙ f)

@@ -45,5 +45,3 @@ complete r f u h = ?
 pub taken_whole : (s : Sort) (q : State) (o : Outcome) → stands s q ≡ true → done (opens s q) o ≡ true → stands s (on_child s q o) ≡ true
 taken_whole s q o h d = ?
 
-pub unit_state : (q : State) → stands unit q ≡ true → (q ≡ fresh) ⊎ (q ≡ unit_end)
-unit_state q h = ?

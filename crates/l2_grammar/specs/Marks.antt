@@ -1,5 +1,5 @@
 -- Which punctuator or keyword a token is.
-use Rattle.std.specs.Prelude.{ℕ, Bool, true, false, nat_eq}
+use Rattle.std.specs.Prelude.{ℕ, Bool, true, false, eqb}
 use Rattle.l2_syntax.specs.declared.token.Mark.{Mark}
 use Rattle.l2_syntax.specs.declared.token.Mark.TheVariants as mark
 use Rattle.l2_syntax.specs.declared.token.TokenKind.{TokenKind}
@@ -83,5 +83,5 @@ number_of mark.While = 73
 
 -- the token is this mark
 unfoldable pub is : Mark → TokenKind → Bool
-is m (kind.Mark n) = nat_eq (number_of m) (number_of n)
+is m (kind.Mark n) = eqb (number_of m) (number_of n)
 is m k = false

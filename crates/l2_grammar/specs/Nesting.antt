@@ -3,6 +3,10 @@ use Rattle.std.specs.Prelude.{ℕ, Bool, true, false, cond, not, ◌&&◌, ◌||
 use Rattle.l2_grammar.specs.Networks.{level_of, wanted_by, starred, indexed}
 use Rattle.l2_grammar.specs.States.{Naming, named, optional, absent, Sort, unit, external, item, for_first, member, parameter, declarator, enclosed, operand, inside, sizeof_operand, initialiser, nowhere, Right, binary, assignment, conditional, cast, prefix, update, Storage, automatic, stored, typedef, Length, no_length, short, long, long_long, Core, no_core, int, char, Named, number, nothing, other, struct_tag, enum_tag, tagged, Shape, nameless, name_only, function, derived, State, none, fresh, unit_end, have, right, sizing, sized, paren, paren_close, typed_close, index, index_close, call, call_more, call_next, member_name, quest, quest_close, word, block, if_open, if_test, if_close, then_part, then_done, else_part, head_open, head_test, head_close, body, do_body, do_while, do_open, do_test, do_close, for_open, for_init, for_init_close, for_second, for_second_close, for_third, for_close, case_value, colon, returning, semicolon, statement, before_type, typed, struct_word, enum_word, members, enumerators, enumerator, enum_value, enum_value_close, enum_comma, declared, init_value, init_close, next_declarator, declaration_end, function_block, braces, brace_more, brace_next, braced, stars, stars_const, group, group_close, direct, size, size_close, parameters, parameters_more, parameters_next, Outcome, unfinished, value, stated, declaration, type, declares}
 
+abbrev pub is_unit : Sort → Bool
+is_unit unit = true
+is_unit s = false
+
 -- where an expression may stand
 abbrev pub values : Sort → Bool
 values (item b) = true
@@ -59,7 +63,7 @@ names absent h = false
 
 -- what may stand in a construct that is in this state
 unfoldable pub opens : Sort → State → Sort
-opens unit fresh = external
+opens s fresh = cond (is_unit s) external nowhere
 opens s (right r) = operand (wanted_by r)
 opens s sizing = sizeof_operand
 opens s paren = cond (takes_type s) inside (operand 1)
@@ -200,10 +204,6 @@ on_child s (size b h) o = behind_value (size_close b h) o
 on_child s (parameters b h) o = behind_parameter b h true o
 on_child s (parameters_next b h c) o = behind_next_parameter b h c o
 on_child s q o = none
-
-abbrev pub is_unit : Sort → Bool
-is_unit unit = true
-is_unit s = false
 
 abbrev pub is_external : Sort → Bool
 is_external external = true
