@@ -8,7 +8,8 @@ use Rattle.l2_grammar.specs.Trees.{Seen, Tree, begin, token, child, spell, sort,
 use Rattle.l2_grammar.specs.Reader.{Next, Stop, To, takes, begins, step, Verdict, Stops, Reads, finished, finish, on_next, feed}
 use Rattle.l2_grammar.specs.Law.{IsUnit, Spells}
 use Rattle.l2_grammar.proofs.Bools.{cond_true, cond_false, no}
-use Rattle.l2_grammar.proofs.Ends.{ends, Follows, ends_apart, follows_end}
+use Rattle.l2_grammar.proofs.Ends.{ends, Follows, ends_apart}
+use Rattle.l2_grammar.proofs.Follow.{follows_end}
 use Rattle.l2_grammar.proofs.Nests.{begins_apart, no_unit, first_child, child_begun, no_last_child}
 
 -- from the point behind a tree, whose last part stands
@@ -77,8 +78,7 @@ pub settle : (r : Tree) → Fits r → (ks : List Tree) (t : Seen) (m : List See
 settle (begin s) f ks t m w = refl
 settle (token a x) f ks t m w = refl
 settle (child a c) f ks t m w =
-    let g : stands (opens (sort a) (state a)) (state c) ≡ true = subst (λ s. stands s (state c) ≡ true) (sym f.2) (stood c (begun a c f.3) f.1) in
-    let e : ends (sort c) (state c) t.kind ≡ true = subst (λ s. ends s (state c) t.kind ≡ true) f.2 (follows_end (sort a) (state a) (state c) t.kind g f.3 w) in
+    let e : ends (sort c) (state c) t.kind ≡ true = subst (λ s. ends s (state c) t.kind ≡ true) f.2 (follows_end (sort a) (state a) (state c) t.kind f.3 w) in
     settle c f.1 (a ∷ ks) t m (inr (inr e)) ∙ closed ks a c t m e f.3
 
 -- a construct that begins in another

@@ -1,7 +1,8 @@
 pub mod Bools
 pub mod Tokens
-pub mod Ends
 pub mod Nests
+pub mod Ends
+pub mod Follow
 pub mod Fed
 pub mod Whole
 pub mod Kept

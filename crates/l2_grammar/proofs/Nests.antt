@@ -5,7 +5,7 @@ use Rattle.l2_syntax.specs.declared.token.Mark.TheVariants as mark
 use Rattle.l2_syntax.specs.declared.token.TokenKind.{TokenKind}
 use Rattle.l2_syntax.specs.declared.token.TokenKind.TheVariants as kind
 use Rattle.l2_grammar.specs.Marks.{is}
-use Rattle.l2_grammar.specs.Networks.{on_token, on, continued, wants_left, level_of, wanted_by, after_type, applied, indexed}
+use Rattle.l2_grammar.specs.Networks.{on_token, on, continued, wants_left, level_of, wanted_by, after_type, add_to, applied, indexed}
 use Rattle.l2_grammar.specs.Nesting.{opens, outcome, on_child, stands, values, least, value_at, is_unit, naming, own_naming, grouped, takes_type}
 use Rattle.l2_grammar.specs.Reader.{takes, begins}
 use Rattle.l2_grammar.proofs.Bools.{cond_true, cond_false, no}
@@ -41,9 +41,33 @@ fresh_apart : (s : Sort) (k : TokenKind) → takes (cond (is_unit s) external no
 fresh_apart unit k e = unit_apart k e
 fresh_apart s k e = absurd (no e (nowhere_stands _))
 
+-- no specifier begins a declarator
+abbrev Begins : TokenKind → Type 0
+Begins (kind.Word x) = Unit {0}
+Begins (kind.Mark mark.Star) = Unit {0}
+Begins (kind.Mark mark.OpenParenthesis) = Unit {0}
+Begins (kind.Mark mark.OpenBracket) = Unit {0}
+Begins k = ⊥
+
+added_apart : (s : Sort) (w : Storage) (y : Named) (k : TokenKind) → Begins k → stands s (add_to w y k) ≡ false
+unfolding stands is
+added_apart s w (number a l c) (kind.Word x) e = refl
+added_apart s w y (kind.Word x) e = refl
+added_apart s w (number a l c) (kind.Mark mark.Star) e = refl
+added_apart s w y (kind.Mark mark.Star) e = refl
+added_apart s w (number a l c) (kind.Mark mark.OpenParenthesis) e = refl
+added_apart s w y (kind.Mark mark.OpenParenthesis) e = refl
+added_apart s w (number a l c) (kind.Mark mark.OpenBracket) e = refl
+added_apart s w y (kind.Mark mark.OpenBracket) e = refl
+added_apart s w y k e = absurd e
+
 type_apart : (s : Sort) (w : Storage) (y : Named) (n : Naming) (k : TokenKind) → takes (declarator n) fresh k ≡ true → stands s (after_type s w y k) ≡ false
 unfolding stands on_token
-type_apart s w y n k e = ?
+type_apart s w y n (kind.Word x) e = added_apart s w y (kind.Word x) tt
+type_apart s w y n (kind.Mark mark.Star) e = added_apart s w y (kind.Mark mark.Star) tt
+type_apart s w y n (kind.Mark mark.OpenParenthesis) e = added_apart s w y (kind.Mark mark.OpenParenthesis) tt
+type_apart s w y n (kind.Mark mark.OpenBracket) e = added_apart s w y (kind.Mark mark.OpenBracket) tt
+type_apart s w y n k e = absurd (cc)
 
 operand_closed : (l : ℕ) (m : Mark) → closing_mark m ≡ true → takes (operand l) fresh (kind.Mark m) ≡ false
 unfolding stands on_token
