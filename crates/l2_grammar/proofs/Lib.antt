@@ -4,6 +4,7 @@ pub mod Nests
 pub mod Ends
 pub mod Follow
 pub mod Fed
+pub mod Taken
 pub mod Whole
 pub mod Kept
 pub mod Reading
