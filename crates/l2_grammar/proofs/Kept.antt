@@ -12,7 +12,8 @@ use Rattle.l2_grammar.specs.Law.{IsUnit, Spells}
 use Rattle.l2_grammar.proofs.Bools.{cond_true, cond_false, no}
 use Rattle.l2_grammar.proofs.Nests.{no_unit, unit_state}
 use Rattle.l2_grammar.proofs.Taken.{done, taken_whole}
-use Rattle.l2_grammar.proofs.Whole.{Completed, complete}
+use Rattle.l2_grammar.proofs.Whole.{Completed}
+use Rattle.l2_grammar.proofs.Complete.{complete}
 
 -- what was read for the constructs round it, and then more
 abbrev pub before : List Tree → List Seen → List Seen

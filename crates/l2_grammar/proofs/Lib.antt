@@ -6,5 +6,9 @@ pub mod Follow
 pub mod Fed
 pub mod Taken
 pub mod Whole
+pub mod Statements
+pub mod Declarations
+pub mod Declarators
+pub mod Complete
 pub mod Kept
 pub mod Reading

@@ -1,2 +1,6 @@
-//! The grammar of the language, and what reading is.
+//! The grammar of the language (C11 6.5 to 6.9) as networks, the tree of a text, and what reading is, with the laws of reading.
 #![tactic(auto)]
+
+mod laws;
+
+pub use laws::{read_law, stop_law, unique_law};
