@@ -1,23 +1,17 @@
 -- Every state that may stand goes on to a whole construct.
-use Rattle.std.proofs.Common.{◌≡◌, ◌≤◌, ◌<◌, ◌+◌, ℕ, List, [], ◌∷◌, ◌++◌, ◌⊎◌, inl, inr, Bool, true, false, cond, not, ◌&&◌, ◌||◌, leb, refl, sym, ap, ◌∙◌, subst, arith}
-use Rattle.l2_syntax.specs.declared.token.Mark.{Mark}
+use Rattle.std.proofs.Common.{◌≡◌, true, false, refl}
 use Rattle.l2_syntax.specs.declared.token.Mark.TheVariants as mark
-use Rattle.l2_syntax.specs.declared.token.TokenKind.{TokenKind}
 use Rattle.l2_syntax.specs.declared.token.TokenKind.TheVariants as kind
 use Rattle.l2_grammar.specs.Marks.{is}
-use Rattle.l2_grammar.specs.Networks.{on_token, on, continued, wants_left, level_of, wanted_by, applied, indexed, starred, cast_in}
-use Rattle.l2_grammar.specs.Nesting.{opens, outcome, on_child, stands, values, least, value_at, is_unit, is_item, is_declarator, is_external, is_initialiser, is_sizeof, names, naming, own_naming, grouped, takes_type, ends_declaration, specifies, initialises, defines, behind_value, behind_inside, behind_group, behind_declarator, behind_statement, behind_item, behind_declaration, behind_first, behind_parameter, behind_next_parameter}
-use Rattle.l2_syntax.specs.declared.place.Place.{Place}
-use Rattle.std.proofs.lemmas.Bool.{le-leb, lt-leb, leb-true, leb-false}
-use Rattle.l2_grammar.proofs.Bools.{cond_true, cond_false, no, both, and}
-use Rattle.l2_grammar.proofs.Tokens.{none_stands}
-use Rattle.l2_grammar.proofs.Taken.{done, right_whole}
+use Rattle.l2_grammar.specs.Networks.{on_token}
+use Rattle.l2_grammar.specs.Nesting.{opens, outcome, on_child, stands, is_unit, names, naming, takes_type, ends_declaration, specifies}
+use Rattle.l2_grammar.proofs.Bools.{no, both, and}
 use Rattle.l2_grammar.proofs.Statements.{in_item, can_if_close, can_if_test, can_if_open, can_word, can_block, can_then_done, can_else, can_rest, can_head_close, can_head_test, can_head_open, can_do_close, can_do_test, can_do_open, can_do_while, can_do_body, can_for_close, can_for_third, can_for_second_close, can_for_second, can_for_init_close, can_for_init, can_for_open, can_colon, can_case, can_returning}
-use Rattle.l2_grammar.proofs.Declarations.{can_end, can_declared, name_fits, can_named, can_typed, can_next, can_before, can_tag, can_struct, can_enum, can_brace, can_members, can_enumerator, can_enumerators, can_enum_value_close, can_enum_value, can_enum_comma, can_init_close, can_init, can_function}
-use Rattle.l2_grammar.proofs.Declarators.{can_braced, can_brace_more, can_brace_next, can_braces, in_initialiser, can_direct, can_round, can_group_close, can_size, can_size_close, can_parameters, can_more, can_parameters_next, can_star, can_stars, can_stars_const, can_group}
-use Rattle.l2_grammar.proofs.Whole.{Completed, Can, can_stop, can_token, can_child, seen, sign, least_of, skip, name_of, least_parameter, fits_text, can_have, can_right, primary, can_primary, can_sized, can_typed_close, can_paren_close, can_paren, can_value, can_call_more, can_index_close, can_quest_close, can_statement, can_semicolon, can_body, can_then}
-use Rattle.l2_grammar.specs.Trees.{Seen, Tree, begin, token, child, spell, sort, state, Fits}
-use Rattle.l2_grammar.specs.States.{Naming, named, optional, absent, Sort, unit, external, item, for_first, member, parameter, declarator, enclosed, operand, inside, sizeof_operand, initialiser, nowhere, Right, binary, assignment, conditional, cast, prefix, update, Storage, automatic, stored, typedef, Length, no_length, short, long, long_long, Core, no_core, int, char, Named, number, nothing, other, struct_tag, enum_tag, tagged, Shape, nameless, name_only, function, derived, State, none, fresh, unit_end, have, right, sizing, sized, paren, paren_close, typed_close, index, index_close, call, call_more, call_next, member_name, quest, quest_close, word, block, if_open, if_test, if_close, then_part, then_done, else_part, head_open, head_test, head_close, body, do_body, do_while, do_open, do_test, do_close, for_open, for_init, for_init_close, for_second, for_second_close, for_third, for_close, case_value, colon, returning, semicolon, statement, before_type, typed, struct_word, enum_word, members, enumerators, enumerator, enum_value, enum_value_close, enum_comma, declared, init_value, init_close, next_declarator, declaration_end, function_block, braces, brace_more, brace_next, braced, stars, stars_const, group, group_close, direct, size, size_close, parameters, parameters_more, parameters_next, Outcome, unfinished, value, stated, declaration, type, declares}
+use Rattle.l2_grammar.proofs.Declarations.{can_end, can_declared, can_typed, can_next, can_before, can_struct, can_enum, can_members, can_enumerator, can_enumerators, can_enum_value_close, can_enum_value, can_enum_comma, can_init_close, can_init, can_function}
+use Rattle.l2_grammar.proofs.Declarators.{can_braced, can_brace_more, can_brace_next, can_braces, in_initialiser, can_direct, can_group_close, can_size, can_size_close, can_parameters, can_more, can_parameters_next, can_stars, can_stars_const, can_group}
+use Rattle.l2_grammar.proofs.Whole.{Completed, Can, can_child, sign, least_of, can_have, can_right, can_primary, can_sized, can_typed_close, can_paren_close, can_paren, can_value, can_call_more, can_index_close, can_quest_close, can_statement, can_semicolon, can_then}
+use Rattle.l2_grammar.specs.Trees.{Tree, sort, state, Fits}
+use Rattle.l2_grammar.specs.States.{Sort, sizeof_operand, State, none, fresh, unit_end, have, right, sizing, sized, paren, paren_close, typed_close, index, index_close, call, call_more, call_next, member_name, quest, quest_close, word, block, if_open, if_test, if_close, then_part, then_done, else_part, head_open, head_test, head_close, body, do_body, do_while, do_open, do_test, do_close, for_open, for_init, for_init_close, for_second, for_second_close, for_third, for_close, case_value, colon, returning, semicolon, statement, before_type, typed, struct_word, enum_word, members, enumerators, enumerator, enum_value, enum_value_close, enum_comma, declared, init_value, init_close, next_declarator, declaration_end, function_block, braces, brace_more, brace_next, braced, stars, stars_const, group, group_close, direct, size, size_close, parameters, parameters_more, parameters_next}
 
 completes : (s : Sort) (q : State) → is_unit s ≡ false → stands s q ≡ true → Can s q
 unfolding stands on_token on_child opens is outcome

@@ -1,19 +1,17 @@
 -- Which tokens may follow a whole construct, and that it goes on with none of them.
-use Rattle.std.proofs.Common.{◌≡◌, ◌≤◌, ◌<◌, ◌+◌, ℕ, suc, List, [], ◌∷◌, ◌⊎◌, inl, inr, Bool, true, false, cond, not, ◌&&◌, ◌||◌, leb, T, refl, sym, ap, ◌∙◌, subst, arith}
-use Rattle.l2_syntax.specs.declared.token.Mark.{Mark}
+use Rattle.std.proofs.Common.{◌≡◌, ◌≤◌, ◌<◌, ℕ, suc, ◌⊎◌, Bool, true, false, cond, not, ◌&&◌, ◌||◌, leb, refl, ap, arith}
 use Rattle.l2_syntax.specs.declared.token.Mark.TheVariants as mark
 use Rattle.l2_syntax.specs.declared.token.TokenKind.{TokenKind}
 use Rattle.l2_syntax.specs.declared.token.TokenKind.TheVariants as kind
 use Rattle.l2_grammar.specs.Marks.{is}
-use Rattle.std.proofs.lemmas.Bool.{le-leb, lt-leb, leb-true, leb-false}
-use Rattle.l2_grammar.specs.Networks.{on_token, on, continued, wants_left, level_of, wanted_by, after_type, add_to, applied, indexed}
-use Rattle.l2_grammar.specs.Nesting.{opens, outcome, on_child, stands, values, least, value_at, is_unit, is_item, naming, own_naming, grouped, takes_type, ends_declaration, names, specifies}
+use Rattle.std.proofs.lemmas.Bool.{leb-true}
+use Rattle.l2_grammar.specs.Networks.{on_token, continued, wants_left, level_of}
+use Rattle.l2_grammar.specs.Nesting.{opens, stands, values, least, value_at, is_item, naming, ends_declaration, specifies}
 use Rattle.l2_grammar.specs.Reader.{takes, begins}
-use Rattle.l2_grammar.proofs.Bools.{cond_true, cond_false, no, both, and}
-use Rattle.l2_grammar.proofs.Tokens.{is_mark, on_or, on_only, on_two, on_not, none_stands}
+use Rattle.l2_grammar.proofs.Bools.{no, both}
+use Rattle.l2_grammar.proofs.Tokens.{on_not, none_stands}
 use Rattle.l2_grammar.proofs.Nests.{nowhere_stands}
-use Rattle.l2_grammar.specs.States.{Naming, named, optional, absent, Sort, unit, external, item, for_first, member, parameter, declarator, enclosed, operand, inside, sizeof_operand, initialiser, nowhere, Right, binary, assignment, conditional, cast, prefix, update, Storage, automatic, stored, typedef, Length, no_length, short, long, long_long, Core, no_core, int, char, Named, number, nothing, other, struct_tag, enum_tag, tagged, Shape, nameless, name_only, function, derived, State, none, fresh, unit_end, have, right, sizing, sized, paren, paren_close, typed_close, index, index_close, call, call_more, call_next, member_name, quest, quest_close, word, block, if_open, if_test, if_close, then_part, then_done, else_part, head_open, head_test, head_close, body, do_body, do_while, do_open, do_test, do_close, for_open, for_init, for_init_close, for_second, for_second_close, for_third, for_close, case_value, colon, returning, semicolon, statement, before_type, typed, struct_word, enum_word, members, enumerators, enumerator, enum_value, enum_value_close, enum_comma, declared, init_value, init_close, next_declarator, declaration_end, function_block, braces, brace_more, brace_next, braced, stars, stars_const, group, group_close, direct, size, size_close, parameters, parameters_more, parameters_next, Outcome, unfinished, value, stated, declaration, type, declares}
-
+use Rattle.l2_grammar.specs.States.{Sort, external, item, declarator, Storage, Named, number, Shape, State, none, fresh, have, right, sized, index, call, member_name, quest, then_done, else_part, statement, typed, declared, declaration_end, braced, stars, stars_const, direct}
 
 -- the level of the expression that the token makes
 abbrev pub rank_of : State → ℕ

@@ -1,13 +1,11 @@
 -- The reader goes through the spelling of every tree that fits, to the point behind it.
-use Rattle.std.proofs.Common.{◌≡◌, ℕ, List, [], ◌∷◌, ◌⊎◌, inl, inr, Bool, true, false, cond, refl, sym, ap, ◌∙◌, subst}
-use Rattle.l2_syntax.specs.declared.token.TokenKind.{TokenKind}
-use Rattle.l2_grammar.specs.States.{Sort, unit, State, fresh, unit_end}
-use Rattle.l2_grammar.specs.Networks.{on_token}
+use Rattle.std.proofs.Common.{◌≡◌, List, [], ◌∷◌, inl, inr, true, false, refl, sym, ap, ◌∙◌, subst}
+use Rattle.l2_grammar.specs.States.{unit, fresh}
 use Rattle.l2_grammar.specs.Nesting.{opens, outcome, on_child, stands, is_unit}
 use Rattle.l2_grammar.specs.Trees.{Seen, Tree, begin, token, child, spell, sort, state, Fits}
-use Rattle.l2_grammar.specs.Reader.{Next, Stop, To, takes, begins, step, Verdict, Stops, Reads, finished, finish, on_next, feed}
+use Rattle.l2_grammar.specs.Reader.{takes, begins, Verdict, Reads, finished, on_next, feed}
 use Rattle.l2_grammar.specs.Law.{IsUnit, Spells}
-use Rattle.l2_grammar.proofs.Bools.{cond_true, cond_false, no}
+use Rattle.l2_grammar.proofs.Bools.{cond_true, cond_false}
 use Rattle.l2_grammar.proofs.Ends.{ends, Follows, ends_apart}
 use Rattle.l2_grammar.proofs.Follow.{follows_end}
 use Rattle.l2_grammar.proofs.Nests.{begins_apart, no_unit, first_child, child_begun, no_last_child}

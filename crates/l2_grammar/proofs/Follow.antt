@@ -1,18 +1,18 @@
 -- A token that follows a construct, and belongs to the one round it, may follow it as a whole.
-use Rattle.std.proofs.Common.{◌≡◌, ◌≤◌, ◌<◌, ◌+◌, ℕ, suc, List, [], ◌∷◌, ◌⊎◌, inl, inr, Bool, true, false, cond, not, ◌&&◌, ◌||◌, leb, refl, sym, ap, ◌∙◌, subst, arith}
-use Rattle.std.proofs.lemmas.Bool.{le-leb, lt-leb, leb-true, leb-false}
+use Rattle.std.proofs.Common.{◌≡◌, ◌≤◌, ◌<◌, ℕ, suc, ◌⊎◌, inl, inr, Bool, true, false, cond, not, ◌||◌, leb, refl, sym, ap, subst, arith}
+use Rattle.std.proofs.lemmas.Bool.{le-leb, leb-true}
 use Rattle.l2_syntax.specs.declared.token.Mark.{Mark}
 use Rattle.l2_syntax.specs.declared.token.Mark.TheVariants as mark
 use Rattle.l2_syntax.specs.declared.token.TokenKind.{TokenKind}
 use Rattle.l2_syntax.specs.declared.token.TokenKind.TheVariants as kind
-use Rattle.l2_grammar.specs.Networks.{on_token, on, continued, wants_left, level_of, wanted_by, after_type, add_to, applied, indexed, starred, cast_in}
-use Rattle.l2_grammar.specs.Nesting.{opens, outcome, on_child, stands, values, least, value_at, is_unit, is_item, naming, own_naming, grouped, takes_type, ends_declaration, names, specifies, behind_value, behind_statement, behind_item, behind_declaration, behind_declarator, behind_inside, behind_first, behind_parameter, behind_next_parameter, behind_group, defines}
-use Rattle.l2_grammar.specs.Reader.{takes, begins}
-use Rattle.l2_grammar.proofs.Bools.{cond_true, cond_false, no, both, and}
-use Rattle.l2_grammar.proofs.Tokens.{is_mark, on_or, on_only, on_two, on_not, none_stands}
+use Rattle.l2_grammar.specs.Networks.{on_token, on, continued, wants_left, level_of, wanted_by, indexed, starred, cast_in}
+use Rattle.l2_grammar.specs.Nesting.{opens, outcome, on_child, stands, least, value_at, is_item, naming, own_naming, grouped, takes_type, ends_declaration, names, behind_value, behind_statement, behind_item, behind_declaration, behind_declarator, behind_inside, behind_first, behind_parameter, behind_next_parameter, behind_group, defines}
+use Rattle.l2_grammar.specs.Reader.{takes}
+use Rattle.l2_grammar.proofs.Bools.{no, both, and}
+use Rattle.l2_grammar.proofs.Tokens.{on_or, on_only, on_two, none_stands}
 use Rattle.l2_grammar.proofs.Nests.{nowhere_stands}
 use Rattle.l2_grammar.proofs.Ends.{ends, ends_value, ends_list, ends_declarator, is_else, Follows, grows, grows_wants, grows_low, grows_middle, grows_cast, value_level, ends_level}
-use Rattle.l2_grammar.specs.States.{Naming, named, optional, absent, Sort, unit, external, item, for_first, member, parameter, declarator, enclosed, operand, inside, sizeof_operand, initialiser, nowhere, Right, binary, assignment, conditional, cast, prefix, update, Storage, automatic, stored, typedef, Length, no_length, short, long, long_long, Core, no_core, int, char, Named, number, nothing, other, struct_tag, enum_tag, tagged, Shape, nameless, name_only, function, derived, State, none, fresh, unit_end, have, right, sizing, sized, paren, paren_close, typed_close, index, index_close, call, call_more, call_next, member_name, quest, quest_close, word, block, if_open, if_test, if_close, then_part, then_done, else_part, head_open, head_test, head_close, body, do_body, do_while, do_open, do_test, do_close, for_open, for_init, for_init_close, for_second, for_second_close, for_third, for_close, case_value, colon, returning, semicolon, statement, before_type, typed, struct_word, enum_word, members, enumerators, enumerator, enum_value, enum_value_close, enum_comma, declared, init_value, init_close, next_declarator, declaration_end, function_block, braces, brace_more, brace_next, braced, stars, stars_const, group, group_close, direct, size, size_close, parameters, parameters_more, parameters_next, Outcome, unfinished, value, stated, declaration, type, declares}
+use Rattle.l2_grammar.specs.States.{Naming, named, Sort, external, item, for_first, member, parameter, declarator, operand, inside, sizeof_operand, initialiser, nowhere, Right, binary, assignment, conditional, cast, prefix, update, Storage, tagged, Shape, nameless, State, none, fresh, have, right, sizing, sized, paren, paren_close, typed_close, index, index_close, call, call_more, call_next, quest, quest_close, block, if_test, if_close, then_part, then_done, else_part, head_test, head_close, body, do_body, do_while, do_open, do_test, do_close, for_init, for_init_close, for_second, for_second_close, for_third, for_close, case_value, colon, returning, semicolon, statement, typed, members, enum_value, enum_value_close, enum_comma, declared, init_value, init_close, next_declarator, declaration_end, function_block, braces, brace_more, brace_next, braced, stars, stars_const, group, group_close, direct, size, size_close, parameters, parameters_more, parameters_next, Outcome, value}
 
 taken_only : (s : Sort) (x : State) (k : TokenKind) → opens s x ≡ nowhere → ends s x k ≡ false → Follows s x k → takes s x k ≡ true
 taken_only s x k o e (inl t) = t

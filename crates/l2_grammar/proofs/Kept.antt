@@ -1,18 +1,15 @@
 -- Every step keeps what was read, and from every state some tokens make a unit.
-use Rattle.std.proofs.Common.{◌≡◌, ℕ, List, [], ◌∷◌, ◌++◌, ◌⊎◌, inl, inr, Bool, true, false, cond, refl, sym, ap, ◌∙◌, subst, append_assoc}
+use Rattle.std.proofs.Common.{◌≡◌, List, [], ◌∷◌, ◌++◌, ◌⊎◌, inl, inr, Bool, true, false, cond, refl, sym, ap, ◌∙◌, subst}
 use Rattle.l2_syntax.specs.declared.place.Place.{Place}
-use Rattle.l2_syntax.specs.declared.token.TokenKind.{TokenKind}
 use Rattle.l2_syntax.specs.declared.token.TokenKind.TheVariants as kind
-use Rattle.l2_grammar.specs.States.{Sort, unit, State, fresh, unit_end}
+use Rattle.l2_grammar.specs.States.{unit, fresh, unit_end}
 use Rattle.l2_grammar.specs.Networks.{on_token}
-use Rattle.l2_grammar.specs.Nesting.{opens, outcome, on_child, stands, is_unit}
-use Rattle.l2_grammar.specs.Trees.{Seen, Tree, begin, token, child, spell, sort, state, Fits}
-use Rattle.l2_grammar.specs.Reader.{Next, Stop, To, takes, begins, step, Verdict, Stops, Reads, finished, finish, on_next, feed}
-use Rattle.l2_grammar.specs.Law.{IsUnit, Spells}
-use Rattle.l2_grammar.proofs.Bools.{cond_true, cond_false, no}
+use Rattle.l2_grammar.specs.Nesting.{opens, outcome, stands, is_unit}
+use Rattle.l2_grammar.specs.Trees.{Seen, Tree, token, child, spell, sort, state, Fits}
+use Rattle.l2_grammar.specs.Reader.{Next, Stop, To, takes, begins, step}
+use Rattle.l2_grammar.specs.Law.{IsUnit}
 use Rattle.l2_grammar.proofs.Nests.{no_unit, unit_state}
 use Rattle.l2_grammar.proofs.Taken.{done, taken_whole}
-use Rattle.l2_grammar.proofs.Whole.{Completed}
 use Rattle.l2_grammar.proofs.Complete.{complete}
 
 -- what was read for the constructs round it, and then more

@@ -1,16 +1,16 @@
 -- How constructs begin in one another.
-use Rattle.std.proofs.Common.{◌≡◌, ◌≤◌, ◌<◌, ◌+◌, ℕ, List, [], ◌∷◌, ◌⊎◌, inl, inr, Bool, true, false, cond, not, ◌&&◌, ◌||◌, leb, refl, sym, ap, ◌∙◌, subst, arith}
+use Rattle.std.proofs.Common.{◌≡◌, ℕ, ◌⊎◌, inl, inr, Bool, true, false, cond, refl, sym, ap, ◌∙◌, subst}
 use Rattle.l2_syntax.specs.declared.token.Mark.{Mark}
 use Rattle.l2_syntax.specs.declared.token.Mark.TheVariants as mark
 use Rattle.l2_syntax.specs.declared.token.TokenKind.{TokenKind}
 use Rattle.l2_syntax.specs.declared.token.TokenKind.TheVariants as kind
 use Rattle.l2_grammar.specs.Marks.{is}
-use Rattle.l2_grammar.specs.Networks.{on_token, on, continued, wants_left, level_of, wanted_by, after_type, add_to, applied, indexed}
-use Rattle.l2_grammar.specs.Nesting.{opens, outcome, on_child, stands, values, least, value_at, is_unit, naming, own_naming, grouped, takes_type}
+use Rattle.l2_grammar.specs.Networks.{on_token, on, after_type, add_to, applied, indexed}
+use Rattle.l2_grammar.specs.Nesting.{opens, outcome, on_child, stands, is_unit, naming, own_naming, grouped, takes_type}
 use Rattle.l2_grammar.specs.Reader.{takes, begins}
-use Rattle.l2_grammar.proofs.Bools.{cond_true, cond_false, no}
-use Rattle.l2_grammar.proofs.Tokens.{is_mark, on_or, on_only, on_two, on_not, none_stands}
-use Rattle.l2_grammar.specs.States.{Naming, named, optional, absent, Sort, unit, external, item, for_first, member, parameter, declarator, enclosed, operand, inside, sizeof_operand, initialiser, nowhere, Right, binary, assignment, conditional, cast, prefix, update, Storage, automatic, stored, typedef, Length, no_length, short, long, long_long, Core, no_core, int, char, Named, number, nothing, other, struct_tag, enum_tag, tagged, Shape, nameless, name_only, function, derived, State, none, fresh, unit_end, have, right, sizing, sized, paren, paren_close, typed_close, index, index_close, call, call_more, call_next, member_name, quest, quest_close, word, block, if_open, if_test, if_close, then_part, then_done, else_part, head_open, head_test, head_close, body, do_body, do_while, do_open, do_test, do_close, for_open, for_init, for_init_close, for_second, for_second_close, for_third, for_close, case_value, colon, returning, semicolon, statement, before_type, typed, struct_word, enum_word, members, enumerators, enumerator, enum_value, enum_value_close, enum_comma, declared, init_value, init_close, next_declarator, declaration_end, function_block, braces, brace_more, brace_next, braced, stars, stars_const, group, group_close, direct, size, size_close, parameters, parameters_more, parameters_next, Outcome, unfinished, value, stated, declaration, type, declares}
+use Rattle.l2_grammar.proofs.Bools.{no}
+use Rattle.l2_grammar.proofs.Tokens.{on_not, none_stands}
+use Rattle.l2_grammar.specs.States.{Naming, named, Sort, unit, external, item, for_first, member, parameter, declarator, operand, inside, initialiser, nowhere, Storage, Named, number, tagged, nameless, State, none, fresh, unit_end, have, right, sizing, paren, index, call, call_next, quest, block, if_test, then_part, else_part, head_test, body, do_body, do_test, for_init, for_second, for_third, case_value, returning, statement, typed, members, enum_value, init_value, next_declarator, declaration_end, function_block, braces, brace_next, braced, group, direct, size, parameters, parameters_next, Outcome, declaration}
 
 pub nowhere_stands : (q : State) → stands nowhere q ≡ false
 unfolding stands

@@ -1,10 +1,10 @@
 -- The reader reads what spells a unit, and stops at the first token with which no unit goes on.
-use Rattle.std.proofs.Common.{◌≡◌, ℕ, List, [], ◌∷◌, ◌++◌, ◌⊎◌, inl, inr, Bool, true, false, cond, refl, sym, ap, ◌∙◌, subst, append_assoc, append-nil}
-use Rattle.l2_grammar.specs.States.{Sort, unit, State, fresh, unit_end}
-use Rattle.l2_grammar.specs.Nesting.{opens, outcome, on_child, stands, is_unit}
-use Rattle.l2_grammar.specs.Trees.{Seen, Tree, begin, token, child, spell, sort, state, Fits}
-use Rattle.l2_grammar.specs.Reader.{Next, Stop, To, takes, begins, step, Verdict, Stops, Reads, finished, finish, on_next, feed}
-use Rattle.l2_grammar.specs.Law.{IsUnit, Spells, Begins, NoFurther, StopsBefore}
+use Rattle.std.proofs.Common.{◌≡◌, List, [], ◌∷◌, ◌++◌, true, refl, sym, ap, ◌∙◌, subst, append_assoc, append-nil}
+use Rattle.l2_grammar.specs.States.{unit, State, fresh, unit_end}
+use Rattle.l2_grammar.specs.Nesting.{stands}
+use Rattle.l2_grammar.specs.Trees.{Seen, Tree, begin, spell, state}
+use Rattle.l2_grammar.specs.Reader.{Next, Stop, To, step, Verdict, Stops, Reads, finished, on_next, feed}
+use Rattle.l2_grammar.specs.Law.{IsUnit, Spells, NoFurther, StopsBefore}
 use Rattle.l2_grammar.proofs.Fed.{reads}
 use Rattle.l2_grammar.proofs.Kept.{before, Good, Kept, kept_step, Begun, finish_at}
 

@@ -1,5 +1,5 @@
 -- A token that is a mark.
-use Rattle.std.proofs.Common.{◌≡◌, ℕ, zero, suc, List, [], ◌∷◌, ◌⊎◌, inl, inr, Bool, true, false, cond, T, eqb, refl, sym, ap, ◌∙◌, subst}
+use Rattle.std.proofs.Common.{◌≡◌, ℕ, zero, suc, List, [], ◌∷◌, ◌⊎◌, inl, inr, Bool, true, false, cond, T, refl, sym, ap, ◌∙◌, subst}
 use Rattle.std.proofs.Math.Facts.{eqb_yes}
 use Rattle.l2_syntax.specs.declared.token.Mark.{Mark}
 use Rattle.l2_syntax.specs.declared.token.Mark.TheVariants as mark
@@ -7,9 +7,9 @@ use Rattle.l2_syntax.specs.declared.token.TokenKind.{TokenKind}
 use Rattle.l2_syntax.specs.declared.token.TokenKind.TheVariants as kind
 use Rattle.l2_grammar.specs.Marks.{is, number_of}
 use Rattle.l2_grammar.specs.States.{Sort, State, none}
-use Rattle.l2_grammar.specs.Networks.{on, on_word}
+use Rattle.l2_grammar.specs.Networks.{on}
 use Rattle.l2_grammar.specs.Nesting.{stands}
-use Rattle.l2_grammar.proofs.Bools.{cond_true, cond_false, no}
+use Rattle.l2_grammar.proofs.Bools.{no}
 
 abbrev marks : List Mark
 marks = mark.OpenBracket ∷ mark.CloseBracket ∷ mark.OpenParenthesis ∷ mark.CloseParenthesis ∷ mark.OpenBrace ∷ mark.CloseBrace ∷ mark.Dot ∷ mark.Arrow ∷ mark.PlusPlus ∷ mark.MinusMinus ∷ mark.Ampersand ∷ mark.Star ∷ mark.Plus ∷ mark.Minus ∷ mark.Tilde ∷ mark.Exclamation ∷ mark.Slash ∷ mark.Percent ∷ mark.ShiftLeft ∷ mark.ShiftRight ∷ mark.Less ∷ mark.Greater ∷ mark.LessEqual ∷ mark.GreaterEqual ∷ mark.EqualEqual ∷ mark.NotEqual ∷ mark.Caret ∷ mark.Bar ∷ mark.AndAnd ∷ mark.OrOr ∷ mark.Question ∷ mark.Colon ∷ mark.Semicolon ∷ mark.Ellipsis ∷ mark.Equal ∷ mark.StarEqual ∷ mark.SlashEqual ∷ mark.PercentEqual ∷ mark.PlusEqual ∷ mark.MinusEqual ∷ mark.ShiftLeftEqual ∷ mark.ShiftRightEqual ∷ mark.AmpersandEqual ∷ mark.CaretEqual ∷ mark.BarEqual ∷ mark.Comma ∷ mark.Hash ∷ mark.HashHash ∷ mark.Bool ∷ mark.Break ∷ mark.Case ∷ mark.Char ∷ mark.Const ∷ mark.Continue ∷ mark.Default ∷ mark.Do ∷ mark.Else ∷ mark.Enum ∷ mark.Extern ∷ mark.For ∷ mark.If ∷ mark.Int ∷ mark.Long ∷ mark.Return ∷ mark.Short ∷ mark.Signed ∷ mark.Sizeof ∷ mark.Static ∷ mark.Struct ∷ mark.Switch ∷ mark.Typedef ∷ mark.Unsigned ∷ mark.Void ∷ mark.While ∷ []

@@ -1,19 +1,17 @@
 -- Every construct that has begun can be made whole.
-use Rattle.std.proofs.Common.{◌≡◌, ◌≤◌, ◌<◌, ◌+◌, ℕ, List, [], ◌∷◌, ◌++◌, ◌⊎◌, inl, inr, Bool, true, false, cond, not, ◌&&◌, ◌||◌, leb, refl, sym, ap, ◌∙◌, subst, arith}
+use Rattle.std.proofs.Common.{◌≡◌, ℕ, List, [], ◌∷◌, ◌++◌, Bool, true, false, cond, leb, refl, sym, ap, ◌∙◌, subst, arith}
 use Rattle.l2_syntax.specs.declared.token.Mark.{Mark}
 use Rattle.l2_syntax.specs.declared.token.Mark.TheVariants as mark
 use Rattle.l2_syntax.specs.declared.token.TokenKind.{TokenKind}
 use Rattle.l2_syntax.specs.declared.token.TokenKind.TheVariants as kind
 use Rattle.l2_grammar.specs.Marks.{is}
-use Rattle.l2_grammar.specs.Networks.{on_token, on, continued, wants_left, level_of, wanted_by, applied, indexed, starred, cast_in}
-use Rattle.l2_grammar.specs.Nesting.{opens, outcome, on_child, stands, values, least, value_at, is_unit, is_item, is_declarator, is_external, is_initialiser, is_sizeof, names, naming, own_naming, grouped, takes_type, ends_declaration, specifies, initialises, defines, behind_value, behind_inside, behind_group, behind_declarator, behind_statement, behind_item, behind_declaration, behind_first, behind_parameter, behind_next_parameter}
-use Rattle.l2_syntax.specs.declared.place.Place.{Place}
-use Rattle.std.proofs.lemmas.Bool.{le-leb, lt-leb, leb-true, leb-false}
-use Rattle.l2_grammar.proofs.Bools.{cond_true, cond_false, no, both, and}
-use Rattle.l2_grammar.proofs.Tokens.{none_stands}
+use Rattle.l2_grammar.specs.Networks.{on_token, level_of, wanted_by}
+use Rattle.l2_grammar.specs.Nesting.{opens, outcome, on_child, stands, value_at, is_sizeof, takes_type}
+use Rattle.std.proofs.lemmas.Bool.{le-leb}
+use Rattle.l2_grammar.proofs.Bools.{cond_true, both, and}
 use Rattle.l2_grammar.proofs.Taken.{done, right_whole}
 use Rattle.l2_grammar.specs.Trees.{Seen, Tree, begin, token, child, spell, sort, state, Fits}
-use Rattle.l2_grammar.specs.States.{Naming, named, optional, absent, Sort, unit, external, item, for_first, member, parameter, declarator, enclosed, operand, inside, sizeof_operand, initialiser, nowhere, Right, binary, assignment, conditional, cast, prefix, update, Storage, automatic, stored, typedef, Length, no_length, short, long, long_long, Core, no_core, int, char, Named, number, nothing, other, struct_tag, enum_tag, tagged, Shape, nameless, name_only, function, derived, State, none, fresh, unit_end, have, right, sizing, sized, paren, paren_close, typed_close, index, index_close, call, call_more, call_next, member_name, quest, quest_close, word, block, if_open, if_test, if_close, then_part, then_done, else_part, head_open, head_test, head_close, body, do_body, do_while, do_open, do_test, do_close, for_open, for_init, for_init_close, for_second, for_second_close, for_third, for_close, case_value, colon, returning, semicolon, statement, before_type, typed, struct_word, enum_word, members, enumerators, enumerator, enum_value, enum_value_close, enum_comma, declared, init_value, init_close, next_declarator, declaration_end, function_block, braces, brace_more, brace_next, braced, stars, stars_const, group, group_close, direct, size, size_close, parameters, parameters_more, parameters_next, Outcome, unfinished, value, stated, declaration, type, declares}
+use Rattle.l2_grammar.specs.States.{Sort, item, for_first, parameter, operand, inside, sizeof_operand, initialiser, Right, conditional, cast, State, none, have, right, sized, paren, paren_close, typed_close, index_close, call_more, quest_close, then_part, then_done, semicolon, statement, value, stated}
 
 -- a tree that goes on to a whole one
 pub record Completed (r : Tree) : Type 0 where

@@ -1,5 +1,5 @@
 -- Which punctuator or keyword a token is.
-use Rattle.std.specs.Prelude.{ℕ, Bool, true, false, eqb}
+use Rattle.std.specs.Prelude.{ℕ, Bool, false, eqb}
 use Rattle.l2_syntax.specs.declared.token.Mark.{Mark}
 use Rattle.l2_syntax.specs.declared.token.Mark.TheVariants as mark
 use Rattle.l2_syntax.specs.declared.token.TokenKind.{TokenKind}

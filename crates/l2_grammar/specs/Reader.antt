@@ -1,9 +1,9 @@
 -- The reader: the construct that is read, those round it, and what a token does to them.
-use Rattle.std.specs.Prelude.{◌≡◌, List, [], ◌∷◌, Bool, true, false, cond}
+use Rattle.std.specs.Prelude.{List, [], ◌∷◌, Bool, cond}
 use Rattle.l2_syntax.specs.declared.token.TokenKind.{TokenKind}
-use Rattle.l2_grammar.specs.States.{Sort, unit, State, fresh, unit_end}
+use Rattle.l2_grammar.specs.States.{Sort, State, fresh, unit_end}
 use Rattle.l2_grammar.specs.Networks.{on_token}
-use Rattle.l2_grammar.specs.Nesting.{opens, outcome, on_child, stands}
+use Rattle.l2_grammar.specs.Nesting.{opens, stands}
 use Rattle.l2_grammar.specs.Trees.{Seen, Tree, begin, token, child, sort, state}
 
 pub data Next : Type 0 where
@@ -28,7 +28,7 @@ step (p ∷ ks) r t =
     (cond (stands (sort p) (state (child p r))) (step ks (child p r) t) Stop))
 
 pub data Verdict : Type 0 where
-  Stops : List Seen → Verdict      -- what is left where reading stops
+  Stops : List Seen → Verdict  -- what is left where reading stops
   Reads : Tree → Verdict
 
 abbrev pub finished : State → Tree → Verdict

@@ -1,5 +1,5 @@
 -- The trees of the grammar, and the tokens that they spell.
-use Rattle.std.specs.Prelude.{◌≡◌, ℕ, List, [], ◌∷◌, Bool, true}
+use Rattle.std.specs.Prelude.{◌≡◌, List, ◌∷◌, true}
 use Rattle.l2_syntax.specs.declared.place.Place.{Place}
 use Rattle.l2_syntax.specs.declared.token.TokenKind.{TokenKind}
 use Rattle.l2_grammar.specs.States.{Sort, State, fresh}
