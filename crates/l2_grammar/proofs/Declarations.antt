@@ -4,18 +4,19 @@ use Rattle.l2_syntax.specs.declared.token.Mark.TheVariants as mark
 use Rattle.l2_syntax.specs.declared.token.TokenKind.TheVariants as kind
 use Rattle.l2_grammar.specs.Marks.{is}
 use Rattle.l2_grammar.specs.Networks.{on_token}
-use Rattle.l2_grammar.specs.Nesting.{opens, outcome, on_child, stands, is_external, names, naming, ends_declaration, specifies, initialises, is_typedef, defines}
+use Rattle.l2_grammar.specs.Nesting.{declares_in, opens, outcome, on_child, stands, is_external, names, naming, ends_declaration, specifies, initialises, is_typedef, defines}
 use Rattle.l2_grammar.proofs.Bools.{both, and}
 use Rattle.l2_grammar.proofs.Whole.{Can, can_stop, can_token, can_child, sign, least_of, name_of, can_value}
 use Rattle.l2_grammar.specs.Trees.{Fits}
-use Rattle.l2_grammar.specs.States.{named, Sort, external, item, for_first, member, parameter, declarator, enclosed, inside, initialiser, Storage, no_length, int, Named, number, struct_tag, enum_tag, tagged, Shape, name_only, State, before_type, typed, struct_word, enum_word, members, enumerators, enumerator, enum_value, enum_value_close, enum_comma, declared, init_value, init_close, next_declarator, declaration_end, function_block, declares}
+use Rattle.l2_grammar.specs.States.{lone, listed, behind_else, named, Sort, external, item, for_first, member, parameter, declarator, enclosed, inside, initialiser, Storage, no_length, int, Named, number, struct_tag, enum_tag, tagged, Shape, name_only, State, before_type, typed, struct_word, enum_word, members, enumerators, enumerator, enum_value, enum_value_close, enum_comma, declared, init_value, init_close, next_declarator, declaration_end, function_block, declares}
 
 -- declarations
 pub can_end : (s : Sort) → ends_declaration s ≡ true → Can s declaration_end
 unfolding outcome
 can_end external h = can_stop external declaration_end refl
-can_end (item true) h = can_stop (item true) declaration_end refl
-can_end (item false) h = absurd (cc)
+can_end (item listed) h = can_stop (item listed) declaration_end refl
+can_end (item lone) h = absurd (cc)
+can_end (item behind_else) h = absurd (cc)
 can_end for_first h = can_stop for_first declaration_end refl
 can_end member h = can_stop member declaration_end refl
 can_end s h = absurd (cc)
@@ -23,8 +24,9 @@ can_end s h = absurd (cc)
 pub can_declared : (s : Sort) (w : Storage) (i : Shape) (b : Bool) → specifies s w ≡ true → Can s (declared w i b)
 unfolding on_token stands outcome is
 can_declared external w i b h = can_token external (declared w i b) declaration_end (sign mark.Semicolon) refl refl (can_end external refl)
-can_declared (item true) w i b h = can_token (item true) (declared w i b) declaration_end (sign mark.Semicolon) refl refl (can_end (item true) refl)
-can_declared (item false) w i b h = absurd (cc)
+can_declared (item listed) w i b h = can_token (item listed) (declared w i b) declaration_end (sign mark.Semicolon) refl refl (can_end (item listed) refl)
+can_declared (item lone) w i b h = absurd (cc)
+can_declared (item behind_else) w i b h = absurd (cc)
 can_declared for_first w i b h = can_token for_first (declared w i b) declaration_end (sign mark.Semicolon) refl refl (can_end for_first refl)
 can_declared member w i b h = can_token member (declared w i b) declaration_end (sign mark.Semicolon) refl refl (can_end member refl)
 can_declared parameter w i b h = can_stop parameter (declared w i b) refl
@@ -43,8 +45,9 @@ can_named s q w b o e n h = can_child s q (declared w name_only b) (name_of (dec
 pub can_typed : (s : Sort) (w : Storage) (y : Named) → specifies s w ≡ true → Can s (typed w y)
 unfolding on_child opens outcome
 can_typed external w y h = can_named external (typed w y) w (defines w name_only) refl refl refl h
-can_typed (item true) w y h = can_named (item true) (typed w y) w (defines w name_only) refl refl refl h
-can_typed (item false) w y h = absurd (cc)
+can_typed (item listed) w y h = can_named (item listed) (typed w y) w (defines w name_only) refl refl refl h
+can_typed (item lone) w y h = absurd (cc)
+can_typed (item behind_else) w y h = absurd (cc)
 can_typed for_first w y h = can_named for_first (typed w y) w (defines w name_only) refl refl refl h
 can_typed member w y h = can_named member (typed w y) w (defines w name_only) refl refl refl h
 can_typed parameter w y h = can_stop parameter (typed w y) refl
@@ -55,8 +58,9 @@ can_typed s w y h = absurd (cc)
 pub can_next : (s : Sort) (w : Storage) → ends_declaration s ≡ true → specifies s w ≡ true → Can s (next_declarator w)
 unfolding on_child opens
 can_next external w e h = can_named external (next_declarator w) w false refl refl refl h
-can_next (item true) w e h = can_named (item true) (next_declarator w) w false refl refl refl h
-can_next (item false) w e h = absurd (cc)
+can_next (item listed) w e h = can_named (item listed) (next_declarator w) w false refl refl refl h
+can_next (item lone) w e h = absurd (cc)
+can_next (item behind_else) w e h = absurd (cc)
 can_next for_first w e h = can_named for_first (next_declarator w) w false refl refl refl h
 can_next member w e h = can_named member (next_declarator w) w false refl refl refl h
 can_next s w e h = absurd (cc)
@@ -107,7 +111,7 @@ can_enum_comma s w h = can_brace s (enum_comma w) w refl h
 
 initialises_ends : (s : Sort) (w : Storage) → initialises s w ≡ true → ends_declaration s ≡ true
 initialises_ends external w h = refl
-initialises_ends (item b) w h = (both b (not (is_typedef w)) h).0
+initialises_ends (item b) w h = (both (declares_in b) (not (is_typedef w)) h).0
 initialises_ends for_first w h = refl
 initialises_ends s w h = absurd (cc)
 

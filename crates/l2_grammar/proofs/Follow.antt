@@ -12,7 +12,7 @@ use Rattle.l2_grammar.proofs.Bools.{no, both, and}
 use Rattle.l2_grammar.proofs.Tokens.{on_or, on_only, on_two, none_stands}
 use Rattle.l2_grammar.proofs.Nests.{nowhere_stands}
 use Rattle.l2_grammar.proofs.Ends.{ends, ends_value, ends_list, ends_declarator, is_else, Follows, grows, grows_wants, grows_low, grows_middle, grows_cast, value_level, ends_level}
-use Rattle.l2_grammar.specs.States.{Naming, named, Sort, external, item, for_first, member, parameter, declarator, operand, inside, sizeof_operand, initialiser, nowhere, Right, binary, assignment, conditional, cast, prefix, update, Storage, tagged, Shape, nameless, State, none, fresh, have, right, sizing, sized, paren, paren_close, typed_close, index, index_close, call, call_more, call_next, quest, quest_close, block, if_test, if_close, then_part, then_done, else_part, head_test, head_close, body, do_body, do_while, do_open, do_test, do_close, for_init, for_init_close, for_second, for_second_close, for_third, for_close, case_value, colon, returning, semicolon, statement, typed, members, enum_value, enum_value_close, enum_comma, declared, init_value, init_close, next_declarator, declaration_end, function_block, braces, brace_more, brace_next, braced, stars, stars_const, group, group_close, direct, size, size_close, parameters, parameters_more, parameters_next, Outcome, value}
+use Rattle.l2_grammar.specs.States.{Items, lone, listed, behind_else, Naming, named, Sort, external, item, for_first, member, parameter, declarator, operand, inside, sizeof_operand, initialiser, nowhere, Right, binary, assignment, conditional, cast, prefix, update, Storage, tagged, Shape, nameless, State, none, fresh, have, right, sizing, sized, paren, paren_close, typed_close, index, index_close, call, call_more, call_next, quest, quest_close, block, if_test, if_close, then_part, then_done, else_part, head_test, head_close, body, do_body, do_while, do_open, do_test, do_close, for_init, for_init_close, for_second, for_second_close, for_third, for_close, case_value, colon, returning, semicolon, statement, typed, members, enum_value, enum_value_close, enum_comma, declared, init_value, init_close, next_declarator, declaration_end, function_block, braces, brace_more, brace_next, braced, stars, stars_const, group, group_close, direct, size, size_close, parameters, parameters_more, parameters_next, Outcome, value}
 
 taken_only : (s : Sort) (x : State) (k : TokenKind) → opens s x ≡ nowhere → ends s x k ≡ false → Follows s x k → takes s x k ≡ true
 taken_only s x k o e (inl t) = t
@@ -94,7 +94,7 @@ then_only s k (inl t) = go (on_or s mark.Else none none k t)
 then_only s k (inr (inl b)) = absurd (no b (nowhere_stands _))
 then_only s k (inr (inr e)) = e
 
-then_end : (s : Sort) (d : State) (k : TokenKind) → stands s (behind_statement then_done (outcome d)) ≡ true → Follows s (behind_statement then_done (outcome d)) k → ends (item false) d k ≡ true
+then_end : (s : Sort) (d : State) (k : TokenKind) → stands s (behind_statement then_done (outcome d)) ≡ true → Follows s (behind_statement then_done (outcome d)) k → ends (item lone) d k ≡ true
 unfolding outcome
 then_end s (statement true) k h f = refl
 then_end s (statement false) k h f = then_only s k f
@@ -107,11 +107,11 @@ statement_only s b k (inl t) = absurd (no t (none_stands s))
 statement_only s b k (inr (inl t)) = absurd (no t (nowhere_stands _))
 statement_only s b k (inr (inr e)) = e
 
-body_end : (s : Sort) (d : State) (k : TokenKind) → stands s (behind_statement statement (outcome d)) ≡ true → Follows s (behind_statement statement (outcome d)) k → ends (item false) d k ≡ true
+body_end : (s : Sort) (i : Items) (d : State) (k : TokenKind) → stands s (behind_statement statement (outcome d)) ≡ true → Follows s (behind_statement statement (outcome d)) k → ends (item i) d k ≡ true
 unfolding outcome
-body_end s (statement b) k h f = statement_only s b k f
-body_end s (then_done b) k h f = statement_only s false k f
-body_end s d k h f = absurd (no h (none_stands s))
+body_end s i (statement b) k h f = statement_only s b k f
+body_end s i (then_done b) k h f = statement_only s false k f
+body_end s i d k h f = absurd (no h (none_stands s))
 
 or_true : (b x : Bool) → x ≡ true → (b || x) ≡ true
 or_true true x e = refl
@@ -121,23 +121,23 @@ do_only : (s : Sort) (k : TokenKind) → Follows s do_while k → not (is_else k
 unfolding on_token opens
 do_only s k f = ap (λ z. not (is_else z)) (one s do_while do_open mark.While k refl refl refl f)
 
-do_end : (s : Sort) (d : State) (k : TokenKind) → stands s (behind_statement (λ b. do_while) (outcome d)) ≡ true → Follows s (behind_statement (λ b. do_while) (outcome d)) k → ends (item false) d k ≡ true
+do_end : (s : Sort) (d : State) (k : TokenKind) → stands s (behind_statement (λ b. do_while) (outcome d)) ≡ true → Follows s (behind_statement (λ b. do_while) (outcome d)) k → ends (item lone) d k ≡ true
 unfolding outcome
 do_end s (statement b) k h f = or_true b _ (do_only s k f)
 do_end s (then_done b) k h f = do_only s k f
 do_end s d k h f = absurd (no h (none_stands s))
 
-item_else : (k : TokenKind) → takes (item true) fresh k ≡ true → not (is_else k) ≡ true
+item_else : (k : TokenKind) → takes (item listed) fresh k ≡ true → not (is_else k) ≡ true
 unfolding on_token stands
 item_else (kind.Mark mark.Else) e = absurd (cc)
 item_else k e = refl
 
-block_only : (s : Sort) (x y : State) (k : TokenKind) → opens s x ≡ item true → ends s x k ≡ false → on_token s x k ≡ on mark.CloseBrace y k none → Follows s x k → not (is_else k) ≡ true
+block_only : (s : Sort) (x y : State) (k : TokenKind) → opens s x ≡ item listed → ends s x k ≡ false → on_token s x k ≡ on mark.CloseBrace y k none → Follows s x k → not (is_else k) ≡ true
 block_only s x y k o e n (inl t) = ap (λ z. not (is_else z)) (on_only s mark.CloseBrace y k (subst (λ z. stands s z ≡ true) n t))
 block_only s x y k o e n (inr (inl b)) = item_else k (subst (λ z. takes z fresh k ≡ true) o b)
 block_only s x y k o e n (inr (inr f)) = absurd (no f e)
 
-block_end : (s : Sort) (x : State) (d : State) (k : TokenKind) → (Follows s x k → not (is_else k) ≡ true) → stands s (behind_item x (outcome d)) ≡ true → Follows s (behind_item x (outcome d)) k → ends (item true) d k ≡ true
+block_end : (s : Sort) (x : State) (d : State) (k : TokenKind) → (Follows s x k → not (is_else k) ≡ true) → stands s (behind_item x (outcome d)) ≡ true → Follows s (behind_item x (outcome d)) k → ends (item listed) d k ≡ true
 unfolding outcome
 block_end s x (statement b) k g h f = or_true b _ (g f)
 block_end s x (then_done b) k g h f = g f
@@ -275,9 +275,9 @@ follows_end s quest d k h f = before_one s (operand 1) quest_close (right condit
 follows_end s block d k h f = block_end s block d k (block_only s block (statement true) k refl refl refl) h f
 follows_end s if_test d k h f = before_one s (operand 1) if_close then_part d mark.CloseParenthesis k refl refl refl refl (omega arith) h f
 follows_end s then_part d k h f = then_end s d k h f
-follows_end s else_part d k h f = body_end s d k h f
+follows_end s else_part d k h f = body_end s behind_else d k h f
 follows_end s head_test d k h f = before_one s (operand 1) head_close body d mark.CloseParenthesis k refl refl refl refl (omega arith) h f
-follows_end s body d k h f = body_end s d k h f
+follows_end s body d k h f = body_end s lone d k h f
 follows_end s do_body d k h f = do_end s d k h f
 follows_end s do_test d k h f = before_one s (operand 1) do_close semicolon d mark.CloseParenthesis k refl refl refl refl (omega arith) h f
 follows_end s for_init d k h f = first_end s d k h f

@@ -10,7 +10,7 @@ use Rattle.l2_grammar.specs.Nesting.{opens, outcome, on_child, stands, is_unit, 
 use Rattle.l2_grammar.specs.Reader.{takes, begins}
 use Rattle.l2_grammar.proofs.Bools.{no}
 use Rattle.l2_grammar.proofs.Tokens.{on_not, none_stands}
-use Rattle.l2_grammar.specs.States.{Naming, named, Sort, unit, external, item, for_first, member, parameter, declarator, operand, inside, initialiser, nowhere, Storage, Named, number, tagged, nameless, State, none, fresh, unit_end, have, right, sizing, paren, index, call, call_next, quest, block, if_test, then_part, else_part, head_test, body, do_body, do_test, for_init, for_second, for_third, case_value, returning, statement, typed, members, enum_value, init_value, next_declarator, declaration_end, function_block, braces, brace_next, braced, group, direct, size, parameters, parameters_next, Outcome, declaration}
+use Rattle.l2_grammar.specs.States.{if_open, listed, behind_else, Naming, named, Sort, unit, external, item, for_first, member, parameter, declarator, operand, inside, initialiser, nowhere, Storage, Named, number, tagged, nameless, State, none, fresh, unit_end, have, right, sizing, paren, index, call, call_next, quest, block, if_test, then_part, else_part, head_test, body, do_body, do_test, for_init, for_second, for_third, case_value, returning, statement, typed, members, enum_value, init_value, next_declarator, declaration_end, function_block, braces, brace_next, braced, group, direct, size, parameters, parameters_next, Outcome, declaration}
 
 pub nowhere_stands : (q : State) → stands nowhere q ≡ false
 unfolding stands
@@ -76,9 +76,13 @@ operand_closed l mark.CloseBracket e = refl
 operand_closed l mark.Semicolon e = refl
 operand_closed l m e = absurd (cc)
 
-closing : (takes (item true) fresh (kind.Mark mark.CloseBrace) ≡ false) × (takes for_first fresh (kind.Mark mark.Semicolon) ≡ false) × (takes member fresh (kind.Mark mark.CloseBrace) ≡ false) × (takes initialiser fresh (kind.Mark mark.CloseBrace) ≡ false) × (takes parameter fresh (kind.Mark mark.CloseParenthesis) ≡ false)
+closing : (takes (item listed) fresh (kind.Mark mark.CloseBrace) ≡ false) × (takes for_first fresh (kind.Mark mark.Semicolon) ≡ false) × (takes member fresh (kind.Mark mark.CloseBrace) ≡ false) × (takes initialiser fresh (kind.Mark mark.CloseBrace) ≡ false) × (takes parameter fresh (kind.Mark mark.CloseParenthesis) ≡ false)
 unfolding stands on_token is
 closing = (refl, refl, refl, refl, refl)
+
+if_apart : takes (item behind_else) fresh (kind.Mark mark.If) ≡ false
+unfolding stands on_token
+if_apart = refl
 
 -- where a construct begins with a token, the one round it doesn't go on with it
 pub begins_apart : (s : Sort) (q : State) (k : TokenKind) → begins s q k ≡ true → takes s q k ≡ false
@@ -91,10 +95,10 @@ begins_apart s index k e = none_stands s
 begins_apart s call k e = mark_apart s (operand 2) mark.CloseParenthesis (have 16) k (operand_closed 2 mark.CloseParenthesis refl) e
 begins_apart s call_next k e = none_stands s
 begins_apart s quest k e = none_stands s
-begins_apart s block k e = mark_apart s (item true) mark.CloseBrace (statement true) k closing.0 e
+begins_apart s block k e = mark_apart s (item listed) mark.CloseBrace (statement true) k closing.0 e
 begins_apart s if_test k e = none_stands s
 begins_apart s then_part k e = none_stands s
-begins_apart s else_part k e = none_stands s
+begins_apart s else_part k e = mark_apart s (item behind_else) mark.If if_open k if_apart e
 begins_apart s head_test k e = none_stands s
 begins_apart s body k e = none_stands s
 begins_apart s do_body k e = none_stands s
@@ -109,7 +113,7 @@ begins_apart s (members w) k e = mark_apart s member mark.CloseBrace (typed w ta
 begins_apart s (enum_value w) k e = none_stands s
 begins_apart s (init_value w) k e = none_stands s
 begins_apart s (next_declarator w) k e = none_stands s
-begins_apart s function_block k e = mark_apart s (item true) mark.CloseBrace declaration_end k closing.0 e
+begins_apart s function_block k e = mark_apart s (item listed) mark.CloseBrace declaration_end k closing.0 e
 begins_apart s braces k e = none_stands s
 begins_apart s brace_next k e = mark_apart s initialiser mark.CloseBrace braced k closing.3 e
 begins_apart s (group b) k e = mark_apart s (grouped (own_naming s)) mark.CloseParenthesis (direct b nameless) k (group_apart (own_naming s)) e

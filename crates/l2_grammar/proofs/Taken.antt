@@ -1,10 +1,10 @@
 -- A whole construct is taken where its sort may stand.
 use Rattle.std.proofs.Common.{◌≡◌, ◌≤◌, ℕ, Bool, true, false, cond, leb, refl, sym, ap, ◌∙◌, subst, arith}
 use Rattle.l2_grammar.specs.Networks.{level_of, wanted_by}
-use Rattle.l2_grammar.specs.Nesting.{opens, on_child, stands, value_at, is_unit, is_item, is_declarator, names, naming, own_naming, grouped, takes_type, ends_declaration, specifies, defines, behind_value, behind_inside, behind_group, behind_declarator, behind_statement, behind_item, behind_declaration, behind_first, behind_parameter, behind_next_parameter}
+use Rattle.l2_grammar.specs.Nesting.{declares_in, opens, on_child, stands, value_at, is_unit, is_item, is_declarator, names, naming, own_naming, grouped, takes_type, ends_declaration, specifies, defines, behind_value, behind_inside, behind_group, behind_declarator, behind_statement, behind_item, behind_declaration, behind_first, behind_parameter, behind_next_parameter}
 use Rattle.std.proofs.lemmas.Bool.{le-leb, leb-true}
-use Rattle.l2_grammar.proofs.Bools.{cond_true, both, and}
-use Rattle.l2_grammar.specs.States.{Naming, named, optional, absent, Sort, unit, external, item, for_first, member, parameter, declarator, enclosed, operand, inside, sizeof_operand, initialiser, nowhere, Right, binary, assignment, conditional, cast, prefix, update, Shape, nameless, State, none, fresh, have, right, sizing, paren, index, index_close, call, call_more, call_next, quest, quest_close, block, if_test, if_close, then_part, then_done, else_part, head_test, head_close, body, do_body, do_while, do_test, do_close, for_init, for_second, for_second_close, for_third, for_close, case_value, colon, returning, semicolon, statement, typed, members, enum_value, enum_value_close, declared, init_value, init_close, next_declarator, function_block, braces, brace_more, brace_next, group, group_close, size, size_close, parameters, parameters_next, Outcome, value, stated, declaration, type, declares}
+use Rattle.l2_grammar.proofs.Bools.{cond_true, both, and, no}
+use Rattle.l2_grammar.specs.States.{Items, lone, listed, behind_else, Naming, named, optional, absent, Sort, unit, external, item, for_first, member, parameter, declarator, enclosed, operand, inside, sizeof_operand, initialiser, nowhere, Right, binary, assignment, conditional, cast, prefix, update, Shape, nameless, State, none, fresh, have, right, sizing, paren, index, index_close, call, call_more, call_next, quest, quest_close, block, if_test, if_close, then_part, then_done, else_part, head_test, head_close, body, do_body, do_while, do_test, do_close, for_init, for_second, for_second_close, for_third, for_close, case_value, colon, returning, semicolon, statement, typed, members, enum_value, enum_value_close, declared, init_value, init_close, next_declarator, function_block, braces, brace_more, brace_next, group, group_close, size, size_close, parameters, parameters_next, Outcome, value, stated, declaration, type, declares}
 
 -- what every place takes where this sort of construct may stand
 abbrev pub done : Sort → Outcome → Bool
@@ -16,7 +16,7 @@ done initialiser value = true
 done for_first value = true
 done for_first declaration = true
 done (item b) (stated c) = true
-done (item true) declaration = true
+done (item b) declaration = declares_in b
 done external declaration = true
 done member declaration = true
 done parameter (type a v) = true
@@ -40,11 +40,12 @@ done_initialiser o d = absurd (cc)
 taken_value : (s : Sort) (x : State) (o : Outcome) → stands s x ≡ true → o ≡ value → stands s (behind_value x o) ≡ true
 taken_value s x o g e = subst (λ z. stands s (behind_value x z) ≡ true) (sym e) g
 
-taken_statement : (s : Sort) (f : Bool → State) (o : Outcome) → ((b : Bool) → stands s (f b) ≡ true) → done (item false) o ≡ true → stands s (behind_statement f o) ≡ true
-taken_statement s f (stated b) g d = g b
-taken_statement s f o g d = absurd (cc)
+taken_statement : (s : Sort) (f : Bool → State) (i : Items) (o : Outcome) → declares_in i ≡ false → ((b : Bool) → stands s (f b) ≡ true) → done (item i) o ≡ true → stands s (behind_statement f o) ≡ true
+taken_statement s f i (stated b) u g d = g b
+taken_statement s f i declaration u g d = absurd (no d u)
+taken_statement s f i o u g d = absurd (cc)
 
-taken_item : (s : Sort) (x : State) (o : Outcome) → stands s x ≡ true → done (item true) o ≡ true → stands s (behind_item x o) ≡ true
+taken_item : (s : Sort) (x : State) (o : Outcome) → stands s x ≡ true → done (item listed) o ≡ true → stands s (behind_item x o) ≡ true
 taken_item s x (stated b) g d = g
 taken_item s x declaration g d = g
 taken_item s x o g d = absurd (cc)
@@ -125,11 +126,11 @@ taken_whole s call_next o h d = taken_value s call_more o h (done_value 2 o d)
 taken_whole s quest o h d = taken_value s quest_close o h (done_value 1 o d)
 taken_whole s block o h d = taken_item s block o h d
 taken_whole s if_test o h d = taken_value s if_close o h (done_value 1 o d)
-taken_whole s then_part o h d = taken_statement s then_done o (λ b. h) d
-taken_whole s else_part o h d = taken_statement s statement o (λ b. h) d
+taken_whole s then_part o h d = taken_statement s then_done lone o refl (λ b. h) d
+taken_whole s else_part o h d = taken_statement s statement behind_else o refl (λ b. h) d
 taken_whole s head_test o h d = taken_value s head_close o h (done_value 1 o d)
-taken_whole s body o h d = taken_statement s statement o (λ b. h) d
-taken_whole s do_body o h d = taken_statement s (λ b. do_while) o (λ b. h) d
+taken_whole s body o h d = taken_statement s statement lone o refl (λ b. h) d
+taken_whole s do_body o h d = taken_statement s (λ b. do_while) lone o refl (λ b. h) d
 taken_whole s do_test o h d = taken_value s do_close o h (done_value 1 o d)
 taken_whole s for_init o h d = taken_first s o h d
 taken_whole s for_second o h d = taken_value s for_second_close o h (done_value 1 o d)

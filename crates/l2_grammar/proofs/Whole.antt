@@ -11,7 +11,7 @@ use Rattle.std.proofs.lemmas.Bool.{le-leb}
 use Rattle.l2_grammar.proofs.Bools.{cond_true, both, and}
 use Rattle.l2_grammar.proofs.Taken.{done, right_whole}
 use Rattle.l2_grammar.specs.Trees.{Seen, Tree, begin, token, child, spell, sort, state, Fits}
-use Rattle.l2_grammar.specs.States.{Sort, item, for_first, parameter, operand, inside, sizeof_operand, initialiser, Right, conditional, cast, State, none, have, right, sized, paren, paren_close, typed_close, index_close, call_more, quest_close, then_part, then_done, semicolon, statement, value, stated}
+use Rattle.l2_grammar.specs.States.{Items, lone, Sort, item, for_first, parameter, operand, inside, sizeof_operand, initialiser, Right, conditional, cast, State, none, have, right, sized, paren, paren_close, typed_close, index_close, call_more, quest_close, then_part, then_done, semicolon, statement, value, stated}
 
 -- a tree that goes on to a whole one
 pub record Completed (r : Tree) : Type 0 where
@@ -64,7 +64,7 @@ abbrev pub least_of : Sort → Tree
 least_of s = token (begin s) (seen kind.Text)
 
 abbrev pub skip : Tree
-skip = token (begin (item false)) (seen (sign mark.Semicolon))
+skip = token (begin (item lone)) (seen (sign mark.Semicolon))
 
 abbrev pub name_of : Sort → Tree
 name_of s = token (begin s) (seen (kind.Word 0))
@@ -136,18 +136,18 @@ unfolding on_token stands is
 can_quest_close s h = can_token s quest_close (right conditional) (sign mark.Colon) refl (and _ _ h refl) (can_right s conditional (and _ _ h refl))
 
 -- statements
-pub can_statement : (b c : Bool) → Can (item b) (statement c)
+pub can_statement : (b : Items) (c : Bool) → Can (item b) (statement c)
 unfolding outcome
 can_statement b c = can_stop (item b) (statement c) refl
 
-pub can_semicolon : (b : Bool) → Can (item b) semicolon
+pub can_semicolon : (b : Items) → Can (item b) semicolon
 unfolding on_token stands is
 can_semicolon b = can_token (item b) semicolon (statement true) (sign mark.Semicolon) refl refl (can_statement b true)
 
-pub can_body : (b : Bool) (q : State) → opens (item b) q ≡ item false → on_child (item b) q (stated true) ≡ statement true → Can (item b) q
+pub can_body : (b : Items) (q : State) → opens (item b) q ≡ item lone → on_child (item b) q (stated true) ≡ statement true → Can (item b) q
 unfolding on_token stands outcome is
 can_body b q o e = can_child (item b) q (statement true) skip (tt, refl) o e refl (can_statement b true)
 
-pub can_then : (b : Bool) → Can (item b) then_part
+pub can_then : (b : Items) → Can (item b) then_part
 unfolding on_token on_child opens stands outcome is
 can_then b = can_child (item b) then_part (then_done true) skip (tt, refl) refl refl refl (can_stop (item b) (then_done true) refl)

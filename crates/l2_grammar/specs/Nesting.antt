@@ -1,7 +1,7 @@
 -- The grammar: which constructs stand in which, and what a whole one is to the one round it.
 use Rattle.std.specs.Prelude.{ℕ, Bool, true, false, cond, not, ◌&&◌, ◌||◌, leb}
 use Rattle.l2_grammar.specs.Networks.{level_of, wanted_by, starred}
-use Rattle.l2_grammar.specs.States.{Naming, named, optional, absent, Sort, unit, external, item, for_first, member, parameter, declarator, enclosed, operand, inside, sizeof_operand, initialiser, nowhere, Storage, automatic, typedef, Named, nothing, Shape, nameless, function, State, none, fresh, unit_end, have, right, sizing, sized, paren, paren_close, typed_close, index, index_close, call, call_more, call_next, member_name, quest, quest_close, block, if_test, if_close, then_part, then_done, else_part, head_test, head_close, body, do_body, do_while, do_test, do_close, for_init, for_init_close, for_second, for_second_close, for_third, for_close, case_value, colon, returning, semicolon, statement, before_type, typed, struct_word, enum_word, members, enumerators, enumerator, enum_value, enum_value_close, enum_comma, declared, init_value, init_close, next_declarator, declaration_end, function_block, braces, brace_more, brace_next, braced, stars, stars_const, group, group_close, direct, size, size_close, parameters, parameters_more, parameters_next, Outcome, unfinished, value, stated, declaration, type, declares}
+use Rattle.l2_grammar.specs.States.{Items, lone, listed, behind_else, Naming, named, optional, absent, Sort, unit, external, item, for_first, member, parameter, declarator, enclosed, operand, inside, sizeof_operand, initialiser, nowhere, Storage, automatic, typedef, Named, nothing, Shape, nameless, function, State, none, fresh, unit_end, have, right, sizing, sized, paren, paren_close, typed_close, index, index_close, call, call_more, call_next, member_name, quest, quest_close, block, if_test, if_close, then_part, then_done, else_part, head_test, head_close, body, do_body, do_while, do_test, do_close, for_init, for_init_close, for_second, for_second_close, for_third, for_close, case_value, colon, returning, semicolon, statement, before_type, typed, struct_word, enum_word, members, enumerators, enumerator, enum_value, enum_value_close, enum_comma, declared, init_value, init_close, next_declarator, declaration_end, function_block, braces, brace_more, brace_next, braced, stars, stars_const, group, group_close, direct, size, size_close, parameters, parameters_more, parameters_next, Outcome, unfinished, value, stated, declaration, type, declares}
 
 abbrev pub is_unit : Sort → Bool
 is_unit unit = true
@@ -71,13 +71,13 @@ opens s index = operand 1
 opens s call = operand 2
 opens s call_next = operand 2
 opens s quest = operand 1
-opens s block = item true
+opens s block = item listed
 opens s if_test = operand 1
-opens s then_part = item false
-opens s else_part = item false
+opens s then_part = item lone
+opens s else_part = item behind_else
 opens s head_test = operand 1
-opens s body = item false
-opens s do_body = item false
+opens s body = item lone
+opens s do_body = item lone
 opens s do_test = operand 1
 opens s for_init = for_first
 opens s for_second = operand 1
@@ -89,7 +89,7 @@ opens s (members w) = member
 opens s (enum_value w) = operand 3
 opens s (init_value w) = initialiser
 opens s (next_declarator w) = declarator (naming s)
-opens s function_block = item true
+opens s function_block = item listed
 opens s braces = initialiser
 opens s brace_next = initialiser
 opens s (group b) = grouped (own_naming s)
@@ -229,10 +229,14 @@ abbrev pub is_typedef : Storage → Bool
 is_typedef typedef = true
 is_typedef w = false
 
+abbrev pub declares_in : Items → Bool
+declares_in listed = true
+declares_in b = false
+
 -- where specifiers with such words of storage may stand
 abbrev pub specifies : Sort → Storage → Bool
 specifies external w = true
-specifies (item b) w = b && not (is_typedef w)
+specifies (item b) w = declares_in b && not (is_typedef w)
 specifies for_first w = not (is_typedef w)
 specifies member w = is_automatic w
 specifies parameter w = is_automatic w
@@ -243,14 +247,14 @@ specifies s w = false
 -- where a declarator may have an initialiser
 abbrev pub initialises : Sort → Storage → Bool
 initialises external w = not (is_typedef w)
-initialises (item b) w = b && not (is_typedef w)
+initialises (item b) w = declares_in b && not (is_typedef w)
 initialises for_first w = not (is_typedef w)
 initialises s w = false
 
 -- where a declaration ends with `;`
 abbrev pub ends_declaration : Sort → Bool
 ends_declaration external = true
-ends_declaration (item b) = b
+ends_declaration (item b) = declares_in b
 ends_declaration for_first = true
 ends_declaration member = true
 ends_declaration s = false

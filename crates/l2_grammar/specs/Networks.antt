@@ -5,7 +5,7 @@ use Rattle.l2_syntax.specs.declared.token.Mark.TheVariants as mark
 use Rattle.l2_syntax.specs.declared.token.TokenKind.{TokenKind}
 use Rattle.l2_syntax.specs.declared.token.TokenKind.TheVariants as kind
 use Rattle.l2_grammar.specs.Marks.{is}
-use Rattle.l2_grammar.specs.States.{Sort, unit, external, item, member, parameter, declarator, enclosed, sizeof_operand, initialiser, Right, binary, assignment, conditional, cast, prefix, update, Storage, automatic, stored, typedef, Length, no_length, short, long, long_long, Core, no_core, int, char, Named, number, nothing, other, struct_tag, enum_tag, tagged, Shape, nameless, name_only, function, derived, State, none, fresh, unit_end, have, right, sizing, sized, paren, paren_close, typed_close, index, index_close, call, call_more, call_next, member_name, quest, quest_close, word, block, if_open, if_test, if_close, then_part, then_done, else_part, head_open, head_test, head_close, body, do_body, do_while, do_open, do_test, do_close, for_open, for_init, for_init_close, for_second, for_second_close, for_third, for_close, case_value, colon, returning, semicolon, statement, before_type, typed, struct_word, enum_word, members, enumerators, enumerator, enum_value, enum_value_close, enum_comma, declared, init_value, init_close, next_declarator, declaration_end, function_block, braces, brace_more, brace_next, braced, stars, stars_const, group, group_close, direct, size, size_close, parameters, parameters_more, parameters_next}
+use Rattle.l2_grammar.specs.States.{Items, behind_else, Sort, unit, external, item, member, parameter, declarator, enclosed, sizeof_operand, initialiser, Right, binary, assignment, conditional, cast, prefix, update, Storage, automatic, stored, typedef, Length, no_length, short, long, long_long, Core, no_core, int, char, Named, number, nothing, other, struct_tag, enum_tag, tagged, Shape, nameless, name_only, function, derived, State, none, fresh, unit_end, have, right, sizing, sized, paren, paren_close, typed_close, index, index_close, call, call_more, call_next, member_name, quest, quest_close, word, block, if_open, if_test, if_close, then_part, then_done, else_part, head_open, head_test, head_close, body, do_body, do_while, do_open, do_test, do_close, for_open, for_init, for_init_close, for_second, for_second_close, for_third, for_close, case_value, colon, returning, semicolon, statement, before_type, typed, struct_word, enum_word, members, enumerators, enumerator, enum_value, enum_value_close, enum_comma, declared, init_value, init_close, next_declarator, declaration_end, function_block, braces, brace_more, brace_next, braced, stars, stars_const, group, group_close, direct, size, size_close, parameters, parameters_more, parameters_next}
 
 -- behind this mark so, behind another token as it is said then
 abbrev pub on : Mark → State → TokenKind → State → State
@@ -227,6 +227,10 @@ begun_item (kind.Mark mark.Return) = returning
 begun_item (kind.Mark mark.Semicolon) = statement true
 begun_item k = begun k
 
+abbrev pub begun_item_in : Items → TokenKind → State
+begun_item_in behind_else (kind.Mark mark.If) = none
+begun_item_in b k = begun_item k
+
 abbrev pub begun_external : TokenKind → State
 begun_external (kind.Mark mark.Semicolon) = declaration_end
 begun_external (kind.Mark mark.Typedef) = before_type typedef
@@ -254,7 +258,7 @@ on_end k = none
 abbrev pub begun_as : Sort → TokenKind → State
 begun_as unit k = on_end k
 begun_as external k = begun_external k
-begun_as (item b) k = begun_item k
+begun_as (item b) k = begun_item_in b k
 begun_as member k = specifier automatic k
 begun_as parameter k = specifier automatic k
 begun_as (declarator n) k = begun_declarator false k
@@ -303,6 +307,7 @@ on_token s block k = on mark.CloseBrace (statement true) k none
 on_token s if_open k = on mark.OpenParenthesis if_test k none
 on_token s if_close k = on mark.CloseParenthesis then_part k none
 on_token s (then_done b) k = on mark.Else (cond b else_part none) k none
+on_token s else_part k = on mark.If if_open k none
 on_token s head_open k = on mark.OpenParenthesis head_test k none
 on_token s head_close k = on mark.CloseParenthesis body k none
 on_token s do_while k = on mark.While do_open k none

@@ -7,11 +7,17 @@ pub data Naming : Type 0 where
   optional : Naming  -- it may, as a parameter's
   absent : Naming  -- it has none, as in the name of a type
 
+-- where a statement stands
+pub data Items : Type 0 where
+  lone : Items  -- where no declaration may stand
+  listed : Items  -- in a block, where a declaration may stand too
+  behind_else : Items  -- where an `if` goes on with the statement that the `else` belongs to
+
 -- what may stand at a place: the sorts of constructs (C11 6.5 to 6.9)
 pub data Sort : Type 0 where
   unit : Sort  -- a whole text
   external : Sort  -- a function, a declaration, a typedef or `;`
-  item : Bool → Sort  -- a statement; where true, a declaration too
+  item : Items → Sort
   for_first : Sort  -- the first part of a `for`: an expression without its `;`, or a declaration
   member : Sort  -- a declaration of members
   parameter : Sort
