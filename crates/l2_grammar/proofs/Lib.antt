@@ -12,3 +12,4 @@ pub mod Declarators
 pub mod Complete
 pub mod Kept
 pub mod Reading
+pub mod Limits

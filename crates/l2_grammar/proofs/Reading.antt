@@ -53,7 +53,7 @@ fresh_stands : stands unit fresh ≡ true
 unfolding stands
 fresh_stands = refl
 
-begins_good : Good [] (begin unit)
+pub begins_good : Good [] (begin unit)
 begins_good = (tt, fresh_stands, refl)
 
 pub spelled : (ts : List Seen) (u : Tree) → feed ts (begin unit) [] ≡ Reads u → Spells ts u

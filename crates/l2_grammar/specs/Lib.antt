@@ -5,3 +5,4 @@ pub mod Nesting
 pub mod Trees
 pub mod Reader
 pub mod Law
+pub mod Limits

@@ -3,4 +3,4 @@
 
 mod laws;
 
-pub use laws::{read_law, stop_law, unique_law};
+pub use laws::{nesting_law, read_law, stop_law, syntax_law, unique_law, within_law};
