@@ -1,11 +1,11 @@
 -- Reading within limits is reading, up to the first token that is too deep.
-use Rattle.std.proofs.Common.{◌≡◌, ℕ, suc, List, [], ◌∷◌, ◌++◌, ◌⊎◌, inl, inr, Bool, true, false, cond, refl, sym, ap, ◌∙◌, subst, append-nil, length, length-append, arith}
+use Rattle.std.proofs.Common.{◌≡◌, ℕ, List, [], ◌∷◌, ◌++◌, Bool, true, false, cond, refl, sym, ap, ◌∙◌, subst, append-nil, length, length-append, arith}
 use Rattle.l2_grammar.specs.States.{unit}
-use Rattle.l2_grammar.specs.Trees.{Seen, Tree, begin, token, child, spell}
-use Rattle.l2_grammar.specs.Reader.{Next, Stop, To, step, Verdict, Stops, Reads, finished, finish, on_next, feed}
-use Rattle.l2_grammar.specs.Law.{Spells, Begins, NoFurther, StopsBefore}
-use Rattle.l2_grammar.specs.Limits.{brackets, nests, Rule, nesting, syntax, Reading, Read, Refused, ended, on_step, read_on, reading, on_deep, deep_from, TooDeep, Shallow, ShallowAt, DeepAt, NestsBefore}
-use Rattle.l2_grammar.proofs.Bools.{no, cond_true, cond_false}
+use Rattle.l2_grammar.specs.Trees.{Seen, Tree, begin, spell}
+use Rattle.l2_grammar.specs.Reader.{Next, Stop, To, step, Verdict, Stops, Reads, finish, on_next, feed}
+use Rattle.l2_grammar.specs.Law.{Spells, StopsBefore}
+use Rattle.l2_grammar.specs.Limits.{brackets, nests, nesting, syntax, Reading, Read, Refused, ended, on_step, read_on, reading, on_deep, deep_from, Shallow, ShallowAt, DeepAt, NestsBefore}
+use Rattle.l2_grammar.proofs.Bools.{no}
 use Rattle.l2_grammar.proofs.Fed.{reads}
 use Rattle.l2_grammar.proofs.Kept.{before, Good, Kept, kept_step, Begun, finish_at}
 use Rattle.l2_grammar.proofs.Reading.{spelled, stops, begins_good}
@@ -163,23 +163,25 @@ pub within_reads : (ts : List Seen) (u : Tree) → Spells ts u → Shallow ts []
 within_reads ts u s f = read_all ts 0 (begin unit) [] u (reads ts u s) f
 
 pub reads_within : (ts : List Seen) (u : Tree) → reading ts ≡ Read u → Spells ts u × Shallow ts []
-reads_within ts u e =
-    (spelled ts u (subst (λ v. Agrees v (feed ts (begin unit) [])) e (agrees ts 0 (begin unit) [])),
-        subst (λ v. NoneDeep ts (Left v) 0 (begin unit) []) e (shallow_from ts 0 (begin unit) []))
+reads_within ts u e = (
+  spelled ts u (subst (λ v. Agrees v (feed ts (begin unit) [])) e (agrees ts 0 (begin unit) [])),
+  subst (λ v. NoneDeep ts (Left v) 0 (begin unit) []) e (shallow_from ts 0 (begin unit) []),
+)
 
 pub nests_before : (ts rest : List Seen) → reading ts ≡ Refused nesting rest → NestsBefore ts rest
 nests_before ts rest e =
     let o : Nested (λ m. m) ts 0 (begin unit) [] rest = subst (λ v. NestedAt (λ m. m) ts 0 (begin unit) [] v) e (nested_from ts 0 (begin unit) [] begins_good) in
     record {
-        used = o.used;
-        parts = o.parts;
-        begins = record { unit = o.begun.unit; rest = o.begun.rest; spells = record { whole = o.begun.whole; spelled = o.begun.spells } };
-        deep = subst (λ z. DeepAt o.used z) (sym o.head) o.deep;
-        shallow = subst (λ v. NoneDeep ts (Left v) 0 (begin unit) []) e (shallow_from ts 0 (begin unit) []);
+      used = o.used;
+      parts = o.parts;
+      begins = record { unit = o.begun.unit; rest = o.begun.rest; spells = record { whole = o.begun.whole; spelled = o.begun.spells } };
+      deep = subst (λ z. DeepAt o.used z) (sym o.head) o.deep;
+      shallow = subst (λ v. NoneDeep ts (Left v) 0 (begin unit) []) e (shallow_from ts 0 (begin unit) []);
     }
 
 pub stops_before : (ts rest : List Seen) → reading ts ≡ Refused syntax rest → StopsBefore ts rest × Shallow ts rest × ShallowAt ts rest
-stops_before ts rest e =
-    (stops ts rest (subst (λ v. Agrees v (feed ts (begin unit) [])) e (agrees ts 0 (begin unit) [])),
-        subst (λ v. NoneDeep ts (Left v) 0 (begin unit) []) e (shallow_from ts 0 (begin unit) []),
-        subst (λ v. HeadDeep ts v 0 (begin unit) []) e (head_from ts 0 (begin unit) []))
+stops_before ts rest e = (
+  stops ts rest (subst (λ v. Agrees v (feed ts (begin unit) [])) e (agrees ts 0 (begin unit) [])),
+  subst (λ v. NoneDeep ts (Left v) 0 (begin unit) []) e (shallow_from ts 0 (begin unit) []),
+  subst (λ v. HeadDeep ts v 0 (begin unit) []) e (head_from ts 0 (begin unit) []),
+)

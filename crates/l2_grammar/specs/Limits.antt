@@ -1,9 +1,9 @@
 -- Reading within limits: brackets and statements that are open at one place, and the tokens of a full expression.
-use Rattle.std.specs.Prelude.{◌≡◌, ◌↔◌, ◌+◌, ◌++◌, ℕ, suc, pred, List, [], ◌∷◌, Bool, true, false, cond, not, ◌&&◌, ◌||◌, leb}
+use Rattle.std.specs.Prelude.{◌≡◌, ◌↔◌, ◌+◌, ◌++◌, ℕ, suc, pred, List, [], ◌∷◌, Bool, true, false, cond, ◌&&◌, ◌||◌, leb}
 use Rattle.l2_syntax.specs.declared.token.Mark.TheVariants as mark
 use Rattle.l2_syntax.specs.declared.token.TokenKind.{TokenKind}
 use Rattle.l2_syntax.specs.declared.token.TokenKind.TheVariants as kind
-use Rattle.l2_grammar.specs.States.{Items, lone, listed, behind_else, Sort, unit, item, State, have, right, sizing, sized, paren, paren_close, typed_close, index, index_close, call, call_more, call_next, member_name, quest, quest_close, word, function_block}
+use Rattle.l2_grammar.specs.States.{lone, Sort, unit, item, State, have, right, sizing, sized, paren, paren_close, typed_close, index, index_close, call, call_more, call_next, member_name, quest, quest_close, word, function_block}
 use Rattle.l2_grammar.specs.Nesting.{stands}
 use Rattle.l2_grammar.specs.Trees.{Seen, Tree, begin, token, child, sort, state}
 use Rattle.l2_grammar.specs.Reader.{Next, Stop, To, step, Verdict, Stops, Reads, finish}

@@ -1,165 +1,23 @@
--- The states of the grammar's networks: how far a construct has been read.
-use Rattle.std.specs.Prelude.{ℕ, Bool}
-
--- whether a declarator has a name
-pub data Naming : Type 0 where
-  named : Naming  -- it must have one
-  optional : Naming  -- it may, as a parameter's
-  absent : Naming  -- it has none, as in the name of a type
-
--- where a statement stands
-pub data Items : Type 0 where
-  lone : Items  -- where no declaration may stand
-  listed : Items  -- in a block, where a declaration may stand too
-  behind_else : Items  -- where an `if` goes on with the statement that the `else` belongs to
-
--- what may stand at a place: the sorts of constructs (C11 6.5 to 6.9)
-pub data Sort : Type 0 where
-  unit : Sort  -- a whole text
-  external : Sort  -- a function, a declaration, a typedef or `;`
-  item : Items → Sort
-  for_first : Sort  -- the first part of a `for`: an expression without its `;`, or a declaration
-  member : Sort  -- a declaration of members
-  parameter : Sort
-  declarator : Naming → Sort
-  enclosed : Naming → Sort  -- behind a `(` where a name may be missing: a declarator or a parameter
-  operand : ℕ → Sort  -- an expression that binds at least so tightly
-  inside : Sort  -- behind a `(`: an expression or the name of a type
-  sizeof_operand : Sort  -- a unary expression, or the name of a type in parentheses
-  initialiser : Sort
-  nowhere : Sort  -- nothing may stand here
-
--- what waits for its right operand
-pub data Right : Type 0 where
-  binary : ℕ → Right  -- a binary operator of this level, the comma too
-  assignment : Right
-  conditional : Right
-  cast : Right
-  prefix : Right
-  update : Right  -- `++` and `--`
-
--- `static` or `extern`, or `typedef`, among the specifiers so far
-pub data Storage : Type 0 where
-  automatic : Storage
-  stored : Storage
-  typedef : Storage
-
-pub data Length : Type 0 where
-  no_length : Length
-  short : Length
-  long : Length
-  long_long : Length
-
-pub data Core : Type 0 where
-  no_core : Core
-  int : Core
-  char : Core
-
--- the type among the specifiers so far
-pub data Named : Type 0 where
-  number : Bool → Length → Core → Named  -- with `signed` or `unsigned` or neither
-  nothing : Named  -- `void`
-  other : Named  -- `_Bool`, or a type name
-  struct_tag : Named  -- `struct` and a word; `{` may follow
-  enum_tag : Named  -- `enum` and a word; `{` may follow
-  tagged : Named  -- a struct or an enum to which nothing more belongs
-
--- what a declarator says of its name
-pub data Shape : Type 0 where
-  nameless : Shape
-  name_only : Shape
-  function : Bool → Shape  -- a function; where true, each of its parameters has a name
-  derived : Shape  -- an array or a pointer
-
-pub data State : Type 0 where
-  none : State  -- no construct goes on so
-  fresh : State  -- nothing was read; in a unit: whole externals were
-  unit_end : State
-  -- expressions
-  have : ℕ → State  -- an expression of this level stands
-  right : Right → State
-  sizing : State  -- behind `sizeof`
-  sized : State  -- `( type )` behind a `sizeof`
-  paren : State  -- behind a `(`
-  paren_close : State  -- `)` comes, round an expression
-  typed_close : State  -- `)` comes, round the name of a type
-  index : State
-  index_close : State
-  call : State
-  call_more : State  -- `,` or `)` comes
-  call_next : State  -- a further argument comes
-  member_name : State  -- behind `.` or `->`
-  quest : State
-  quest_close : State  -- `:` comes
-  -- statements
-  word : State  -- a statement's first word, which may be a label
-  block : State
-  if_open : State  -- `(` comes
-  if_test : State
-  if_close : State
-  then_part : State
-  then_done : Bool → State  -- `else` may come; where false it would belong further in
-  else_part : State
-  head_open : State  -- behind `while` or `switch`: `(` comes
-  head_test : State
-  head_close : State
-  body : State  -- a statement comes, and with it this one ends
-  do_body : State
-  do_while : State
-  do_open : State
-  do_test : State
-  do_close : State
-  for_open : State
-  for_init : State
-  for_init_close : State
-  for_second : State
-  for_second_close : State
-  for_third : State
-  for_close : State
-  case_value : State
-  colon : State  -- `:` comes, then a statement
-  returning : State
-  semicolon : State  -- `;` comes, and with it the statement ends
-  statement : Bool → State  -- a whole statement stands; where false an `else` could follow that would be a part of it
-  -- declarations
-  before_type : Storage → State
-  typed : Storage → Named → State
-  struct_word : Storage → State
-  enum_word : Storage → State
-  members : Storage → State
-  enumerators : Storage → State
-  enumerator : Storage → State
-  enum_value : Storage → State
-  enum_value_close : Storage → State
-  enum_comma : Storage → State
-  declared : Storage → Shape → Bool → State  -- behind a declarator; where true, a function's body may come
-  init_value : Storage → State
-  init_close : Storage → State
-  next_declarator : Storage → State
-  declaration_end : State
-  function_block : State
-  -- initialisers
-  braces : State
-  brace_more : State  -- `,` or `}` comes
-  brace_next : State  -- behind a `,`
-  braced : State
-  -- declarators; where the Bool is true, `*` stands before
-  stars : State
-  stars_const : State
-  group : Bool → State  -- behind a `(`
-  group_close : Bool → Shape → State
-  direct : Bool → Shape → State
-  size : Bool → Shape → State
-  size_close : Bool → Shape → State
-  parameters : Bool → Shape → State
-  parameters_more : Bool → Shape → Bool → Bool → State  -- whether all have names: if `)` comes, and if `,` comes
-  parameters_next : Bool → Shape → Bool → State
-
--- what a whole construct is to the one round it
-pub data Outcome : Type 0 where
-  unfinished : Outcome
-  value : Outcome
-  stated : Bool → Outcome
-  declaration : Outcome
-  type : Bool → Bool → Outcome  -- specifiers, and perhaps a declarator: whether it has a name, and whether it is `void` alone
-  declares : Shape → Outcome
+-- The states of the grammar's networks, as definitions name them.
+pub use Rattle.l2_grammar.specs.declared.states.Naming.{Naming}
+pub use Rattle.l2_grammar.specs.declared.states.Naming.TheVariants.{Named as named, Optional as optional, Absent as absent}
+pub use Rattle.l2_grammar.specs.declared.states.Items.{Items}
+pub use Rattle.l2_grammar.specs.declared.states.Items.TheVariants.{Lone as lone, Listed as listed, BehindElse as behind_else}
+pub use Rattle.l2_grammar.specs.declared.states.Sort.{Sort}
+pub use Rattle.l2_grammar.specs.declared.states.Sort.TheVariants.{Unit as unit, External as external, Item as item, ForFirst as for_first, Member as member, Parameter as parameter, Declarator as declarator, Enclosed as enclosed, Operand as operand, Inside as inside, SizeofOperand as sizeof_operand, Initialiser as initialiser, Nowhere as nowhere}
+pub use Rattle.l2_grammar.specs.declared.states.Right.{Right}
+pub use Rattle.l2_grammar.specs.declared.states.Right.TheVariants.{Binary as binary, Assignment as assignment, Conditional as conditional, Cast as cast, Prefix as prefix, Update as update}
+pub use Rattle.l2_grammar.specs.declared.states.Storage.{Storage}
+pub use Rattle.l2_grammar.specs.declared.states.Storage.TheVariants.{Automatic as automatic, Stored as stored, Typedef as typedef}
+pub use Rattle.l2_grammar.specs.declared.states.Length.{Length}
+pub use Rattle.l2_grammar.specs.declared.states.Length.TheVariants.{NoLength as no_length, Short as short, Long as long, LongLong as long_long}
+pub use Rattle.l2_grammar.specs.declared.states.Core.{Core}
+pub use Rattle.l2_grammar.specs.declared.states.Core.TheVariants.{NoCore as no_core, Int as int, Char as char}
+pub use Rattle.l2_grammar.specs.declared.states.Named.{Named}
+pub use Rattle.l2_grammar.specs.declared.states.Named.TheVariants.{Number as number, Nothing as nothing, Other as other, StructTag as struct_tag, EnumTag as enum_tag, Tagged as tagged}
+pub use Rattle.l2_grammar.specs.declared.states.Shape.{Shape}
+pub use Rattle.l2_grammar.specs.declared.states.Shape.TheVariants.{Nameless as nameless, NameOnly as name_only, Function as function, Derived as derived}
+pub use Rattle.l2_grammar.specs.declared.states.State.{State}
+pub use Rattle.l2_grammar.specs.declared.states.State.TheVariants.{None as none, Fresh as fresh, UnitEnd as unit_end, Have as have, Right as right, Sizing as sizing, Sized as sized, Paren as paren, ParenClose as paren_close, TypedClose as typed_close, Index as index, IndexClose as index_close, Call as call, CallMore as call_more, CallNext as call_next, MemberName as member_name, Quest as quest, QuestClose as quest_close, Word as word, Block as block, IfOpen as if_open, IfTest as if_test, IfClose as if_close, ThenPart as then_part, ThenDone as then_done, ElsePart as else_part, HeadOpen as head_open, HeadTest as head_test, HeadClose as head_close, Body as body, DoBody as do_body, DoWhile as do_while, DoOpen as do_open, DoTest as do_test, DoClose as do_close, ForOpen as for_open, ForInit as for_init, ForInitClose as for_init_close, ForSecond as for_second, ForSecondClose as for_second_close, ForThird as for_third, ForClose as for_close, CaseValue as case_value, Colon as colon, Returning as returning, Semicolon as semicolon, Statement as statement, BeforeType as before_type, Typed as typed, StructWord as struct_word, EnumWord as enum_word, Members as members, Enumerators as enumerators, Enumerator as enumerator, EnumValue as enum_value, EnumValueClose as enum_value_close, EnumComma as enum_comma, Declared as declared, InitValue as init_value, InitClose as init_close, NextDeclarator as next_declarator, DeclarationEnd as declaration_end, FunctionBlock as function_block, Braces as braces, BraceMore as brace_more, BraceNext as brace_next, Braced as braced, Stars as stars, StarsConst as stars_const, Group as group, GroupClose as group_close, Direct as direct, Size as size, SizeClose as size_close, Parameters as parameters, ParametersMore as parameters_more, ParametersNext as parameters_next}
+pub use Rattle.l2_grammar.specs.declared.states.Outcome.{Outcome}
+pub use Rattle.l2_grammar.specs.declared.states.Outcome.TheVariants.{Unfinished as unfinished, Value as value, Stated as stated, Declaration as declaration, Specified as type, Declares as declares}

@@ -19,17 +19,14 @@ pub fn unique_law()
 /// Within the limits a unit is read exactly where the tokens spell it and none of them is too deep.
 pub fn within_law()
     ensures { WithinLaw }
-{
-}
+{}
 
 /// Where a limit stops the reader, some unit begins with the tokens before, and the next is the first that is too deep.
 pub fn nesting_law()
     ensures { NestingLaw }
-{
-}
+{}
 
 /// Where the grammar stops the reader, reading stops there, and no token up to that one is too deep.
 pub fn syntax_law()
     ensures { SyntaxLaw }
-{
-}
+{}

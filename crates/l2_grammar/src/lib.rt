@@ -2,5 +2,7 @@
 #![tactic(auto)]
 
 mod laws;
+mod states;
 
 pub use laws::{nesting_law, read_law, stop_law, syntax_law, unique_law, within_law};
+pub use states::{Core, Items, Length, Named, Naming, Outcome, Right, Shape, Sort, State, Storage};
