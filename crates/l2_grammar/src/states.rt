@@ -233,4 +233,3 @@ pub enum Outcome {
     Specified(bool, bool),
     Declares(Shape),
 }
-
