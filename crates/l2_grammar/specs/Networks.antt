@@ -291,31 +291,6 @@ abbrev pub cast_in : Sort → State
 cast_in sizeof_operand = sized
 cast_in s = right cast
 
--- the further parts of declarations, initialisers and declarators, behind a token
-abbrev pub on_further : State → TokenKind → State
-on_further (struct_word w) k = on mark.OpenBrace (members w) k (on_word (typed w struct_tag) k)
-on_further (enum_word w) k = on mark.OpenBrace (enumerators w) k (on_word (typed w enum_tag) k)
-on_further (members w) k = on mark.CloseBrace (typed w tagged) k none
-on_further (enumerators w) k = on_word (enumerator w) k
-on_further (enumerator w) k = on mark.Equal (enum_value w) k (on mark.Comma (enum_comma w) k (on mark.CloseBrace (typed w tagged) k none))
-on_further (enum_value_close w) k = on mark.Comma (enum_comma w) k (on mark.CloseBrace (typed w tagged) k none)
-on_further (enum_comma w) k = on mark.CloseBrace (typed w tagged) k (on_word (enumerator w) k)
-on_further (declared w h b) k = after_declarator w b k
-on_further (init_close w) k = on mark.Comma (next_declarator w) k (on mark.Semicolon declaration_end k none)
-on_further function_block k = on mark.CloseBrace declaration_end k none
-on_further brace_more k = on mark.Comma brace_next k (on mark.CloseBrace braced k none)
-on_further brace_next k = on mark.CloseBrace braced k none
-on_further stars k = on mark.Const stars_const k (begun_declarator true k)
-on_further stars_const k = begun_declarator true k
-on_further (group b) k = on mark.CloseParenthesis (direct b nameless) k none
-on_further (group_close b h) k = on mark.CloseParenthesis (direct b h) k none
-on_further (direct b h) k = on mark.OpenBracket (size b h) k (on mark.OpenParenthesis (parameters b h) k none)
-on_further (size b h) k = on mark.CloseBracket (direct b (indexed h)) k none
-on_further (size_close b h) k = on mark.CloseBracket (direct b (indexed h)) k none
-on_further (parameters b h) k = on mark.CloseParenthesis (direct b (applied h true)) k none
-on_further (parameters_more b h now later) k = on mark.Comma (parameters_next b h later) k (on mark.CloseParenthesis (direct b (applied h now)) k none)
-on_further q k = none
-
 -- a construct of this sort, in this state, behind a token
 unfoldable pub on_token : Sort → State → TokenKind → State
 on_token s fresh k = begun_as s k
@@ -350,4 +325,25 @@ on_token s returning k = on mark.Semicolon (statement true) k none
 on_token s semicolon k = on mark.Semicolon (statement true) k none
 on_token s (before_type w) k = specifier w k
 on_token s (typed w y) k = after_type s w y k
-on_token s q k = on_further q k
+on_token s (struct_word w) k = on mark.OpenBrace (members w) k (on_word (typed w struct_tag) k)
+on_token s (enum_word w) k = on mark.OpenBrace (enumerators w) k (on_word (typed w enum_tag) k)
+on_token s (members w) k = on mark.CloseBrace (typed w tagged) k none
+on_token s (enumerators w) k = on_word (enumerator w) k
+on_token s (enumerator w) k = on mark.Equal (enum_value w) k (on mark.Comma (enum_comma w) k (on mark.CloseBrace (typed w tagged) k none))
+on_token s (enum_value_close w) k = on mark.Comma (enum_comma w) k (on mark.CloseBrace (typed w tagged) k none)
+on_token s (enum_comma w) k = on mark.CloseBrace (typed w tagged) k (on_word (enumerator w) k)
+on_token s (declared w h b) k = after_declarator w b k
+on_token s (init_close w) k = on mark.Comma (next_declarator w) k (on mark.Semicolon declaration_end k none)
+on_token s function_block k = on mark.CloseBrace declaration_end k none
+on_token s brace_more k = on mark.Comma brace_next k (on mark.CloseBrace braced k none)
+on_token s brace_next k = on mark.CloseBrace braced k none
+on_token s stars k = on mark.Const stars_const k (begun_declarator true k)
+on_token s stars_const k = begun_declarator true k
+on_token s (group b) k = on mark.CloseParenthesis (direct b nameless) k none
+on_token s (group_close b h) k = on mark.CloseParenthesis (direct b h) k none
+on_token s (direct b h) k = on mark.OpenBracket (size b h) k (on mark.OpenParenthesis (parameters b h) k none)
+on_token s (size b h) k = on mark.CloseBracket (direct b (indexed h)) k none
+on_token s (size_close b h) k = on mark.CloseBracket (direct b (indexed h)) k none
+on_token s (parameters b h) k = on mark.CloseParenthesis (direct b (applied h true)) k none
+on_token s (parameters_more b h now later) k = on mark.Comma (parameters_next b h later) k (on mark.CloseParenthesis (direct b (applied h now)) k none)
+on_token s q k = none

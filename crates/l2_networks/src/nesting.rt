@@ -541,6 +541,34 @@ pub fn stands(sort: Sort, state: State) -> bool
         | State::Parameters(_, shape)
         | State::ParametersMore(_, shape, _, _)
         | State::ParametersNext(_, shape, _) => shaped(sort, shape),
-        _ => is_item(sort),
+        State::Word
+        | State::Block
+        | State::IfOpen
+        | State::IfTest
+        | State::IfClose
+        | State::ThenPart
+        | State::ElsePart
+        | State::HeadOpen => is_item(sort),
+        State::HeadTest
+        | State::HeadClose
+        | State::Body
+        | State::DoBody
+        | State::DoWhile
+        | State::DoOpen
+        | State::DoTest
+        | State::DoClose => is_item(sort),
+        State::ForOpen
+        | State::ForInit
+        | State::ForInitClose
+        | State::ForSecond
+        | State::ForSecondClose
+        | State::ForThird
+        | State::ForClose
+        | State::CaseValue => is_item(sort),
+        State::Colon
+        | State::Returning
+        | State::Semicolon
+        | State::ThenDone(_)
+        | State::Statement(_) => is_item(sort),
     }
 }

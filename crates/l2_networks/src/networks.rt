@@ -1,6 +1,6 @@
 // The networks: how a construct goes on behind a token.
 ghost use Rattle.std.specs.Prelude.{◌≡◌, true, cond, leb};
-ghost use Rattle.l2_grammar.specs.Networks.{on, on_word, wants_left, continued, level_of, add_sign, add_core, add_short, add_long, add_word, specifier, closed, add_to, store, alone, alone_in, after_type, begun, begun_item, begun_item_in, begun_external, begun_declarator, begun_enclosed, on_end, begun_as, applied, indexed, after_declarator, cast_in, on_further, on_token};
+ghost use Rattle.l2_grammar.specs.Networks.{on, on_word, wants_left, continued, level_of, add_sign, add_core, add_short, add_long, add_word, specifier, closed, add_to, store, alone, alone_in, after_type, begun, begun_item, begun_item_in, begun_external, begun_declarator, begun_enclosed, on_end, begun_as, applied, indexed, after_declarator, cast_in, on_token};
 
 use crate::marks::is;
 use l2_grammar::{Core, Items, Length, Named, Right, Shape, Sort, State, Storage};
@@ -533,16 +533,6 @@ pub fn on_token(sort: Sort, state: State, kind: TokenKind) -> State
         State::Returning | State::Semicolon => only(Mark::Semicolon, State::Statement(true), kind),
         State::BeforeType(storage) => specifier(storage, kind),
         State::Typed(storage, named) => after_type(sort, storage, named, kind),
-        _ => on_token_further(state, kind),
-    }
-}
-
-/// The same for the further parts of declarations, initialisers and declarators.
-#[tactic(auto, unfolding(l2_grammar::specs::Networks::on_token))]
-fn on_token_further(state: State, kind: TokenKind) -> State
-    ensures { result ≡ on_further state kind }
-{
-    match state {
         State::StructWord(storage) => on(
             Mark::OpenBrace,
             State::Members(storage),
@@ -632,6 +622,29 @@ fn on_token_further(state: State, kind: TokenKind) -> State
             State::Direct(starred, applied(shape, now)),
             kind,
         ),
-        _ => State::None,
+        State::None
+        | State::UnitEnd
+        | State::Right(_)
+        | State::Sizing
+        | State::Sized
+        | State::Paren
+        | State::Index
+        | State::CallNext => State::None,
+        State::Quest
+        | State::IfTest
+        | State::ThenPart
+        | State::HeadTest
+        | State::Body
+        | State::DoBody
+        | State::DoTest
+        | State::CaseValue => State::None,
+        State::Statement(_)
+        | State::EnumValue(_)
+        | State::InitValue(_)
+        | State::NextDeclarator(_)
+        | State::DeclarationEnd
+        | State::Braces
+        | State::Braced
+        | State::ParametersNext(_, _, _) => State::None,
     }
 }
