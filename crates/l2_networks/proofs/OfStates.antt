@@ -1,5 +1,5 @@
 -- What the networks say of a state with parts.
-use Rattle.std.proofs.Common.{◌≡◌, ◌≤◌, ◌&&◌, true, leb, refl}
+use Rattle.std.proofs.Common.{◌≡◌, ◌≤◌, true, leb, refl}
 use Rattle.std.proofs.lemmas.Bool.{leb-true}
 use Rattle.l2_grammar.specs.declared.states.Sort.{Sort}
 use Rattle.l2_grammar.specs.declared.states.Sort.TheVariants.{Operand as operand}

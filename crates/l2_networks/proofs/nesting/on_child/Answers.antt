@@ -1,4 +1,4 @@
-use Rattle.std.proofs.Common.{◌≡◌, ◌∙◌, ap, sym}
+use Rattle.std.proofs.Common.{◌∙◌, ap, sym}
 use Rattle.l2_grammar.specs.declared.states.State.TheVariants.{Declared as declared}
 use Rattle.l2_grammar.specs.Nesting.{on_child, behind_declarator, defines}
 use Rattle.l2_networks.proofs.OfStates.{typed_child}
