@@ -3,6 +3,7 @@ use Rattle.std.proofs.Common.{◌≡◌, List, [], ◌∷◌, Bool, true, false,
 use Rattle.l2_syntax.specs.declared.token.Token.{Token}
 use Rattle.l2_grammar.specs.declared.states.Sort.{Sort}
 use Rattle.l2_grammar.specs.declared.states.State.{State}
+use Rattle.l2_grammar.specs.declared.states.State.TheVariants.{Fresh as fresh}
 use Rattle.l2_grammar.specs.Networks.{on_token}
 use Rattle.l2_grammar.specs.Nesting.{opens, stands, outcome, on_child}
 use Rattle.l2_grammar.specs.Trees.{Seen, Tree, begin, token, child, sort, state}
@@ -12,6 +13,9 @@ use Rattle.l2_parse_unit.specs.declared.syntax.Syntax as syntax
 use Rattle.l2_parse_unit.specs.declared.syntax.Syntax.{Syntax}
 use Rattle.l2_parse_unit.specs.declared.syntax.Open.{Open}
 use Rattle.l2_parse_unit.specs.declared.syntax.Stack.{Stack}
+use Rattle.l2_parse_unit.specs.declared.syntax.Stack as stack
+use Rattle.std.specs.declared.boxed.Box.{Box}
+use Rattle.std.specs.declared.alloc.Global.{Global}
 use Rattle.l2_parse_unit.specs.Parts.{seen, with_part, parts_onto, tree_of, trees_of, Sound, AllSound, Stepped}
 
 with_part_sort : (r : Tree) (x : Syntax) → sort (with_part r x) ≡ sort r
@@ -54,3 +58,43 @@ token_state o t e = ap (λ s. on_token s (state (tree_of o)) t.kind) (sort_of o)
 
 pub child_state : (p r : Open) → state (tree_of p) ≡ p.state → state (tree_of r) ≡ r.state → state (child (tree_of p) (tree_of r)) ≡ on_child p.sort p.state (outcome r.state)
 child_state p r e f = ap (λ s. on_child s (state (tree_of p)) (outcome (state (tree_of r)))) (sort_of p) ∙ ap (λ q. on_child p.sort q (outcome (state (tree_of r)))) e ∙ ap (λ q. on_child p.sort p.state (outcome q)) f
+
+pub takes_step : (run next : Open) (ks : Stack) (t : Token) (q : State) → Sound run × AllSound ks → takes run.sort run.state t.kind ≡ true → q ≡ on_token run.sort run.state t.kind → tree_of next ≡ token (tree_of run) (seen t) → next.state ≡ q → next.sort ≡ run.sort → Stepped run ks t next ks
+takes_step run next ks t q s h n tree st so =
+    (step_takes (trees_of ks) (tree_of run) (seen t) (takes_of run t true s.0.0 h) ∙ ap (λ x. To x (trees_of ks)) (sym tree),
+        (ap state tree ∙ token_state run t s.0.0 ∙ sym n ∙ sym st,
+            subst (λ x. stands next.sort x ≡ true) (sym (st ∙ n)) (subst (λ x. stands x (on_token run.sort run.state t.kind) ≡ true) (sym so) h)),
+        s.1)
+
+pub begins_step : (run inner : Open) (ks rest : Stack) (t : Token) (s : Sort) (q : State) → Sound run × AllSound ks → takes run.sort run.state t.kind ≡ false → begins run.sort run.state t.kind ≡ true → s ≡ opens run.sort run.state → q ≡ on_token s fresh t.kind → tree_of inner ≡ token (begin s) (seen t) → inner.state ≡ q → inner.sort ≡ s → trees_of rest ≡ tree_of run ∷ trees_of ks → AllSound rest → Stepped run ks t inner rest
+begins_step run inner ks rest t s q sound fails yes o n tree st so stack all =
+    let b = begins_of run t true sound.0.0 yes in
+    let here : opens (sort (tree_of run)) (state (tree_of run)) ≡ s = ap (λ x. opens x (state (tree_of run))) (sort_of run) ∙ ap (λ x. opens run.sort x) sound.0.0 ∙ sym o in
+    (step_begins (trees_of ks) (tree_of run) (seen t) (takes_of run t false sound.0.0 fails) b ∙ ap (λ x. To (token (begin x) (seen t)) (tree_of run ∷ trees_of ks)) here ∙ ap (λ x. To x (tree_of run ∷ trees_of ks)) (sym tree) ∙ ap (λ x. To (tree_of inner) x) (sym stack),
+        (ap state tree ∙ sym n ∙ sym st,
+            subst (λ x. stands inner.sort x ≡ true) (sym (st ∙ n)) (subst (λ x. stands x (on_token s fresh t.kind) ≡ true) (sym so) (subst (λ x. stands x (on_token x fresh t.kind) ≡ true) (sym o) yes))),
+        all)
+
+pub up_sound : (p r next : Open) (q : State) → Sound p → Sound r → tree_of next ≡ child (tree_of p) (tree_of r) → next.state ≡ q → next.sort ≡ p.sort → q ≡ on_child p.sort p.state (outcome r.state) → stands p.sort q ≡ true → Sound next
+up_sound p r next q sp sr tree st so n h =
+    (ap state tree ∙ child_state p r sp.0 sr.0 ∙ sym n ∙ sym st, subst (λ x. stands next.sort x ≡ true) (sym st) (subst (λ x. stands x q ≡ true) (sym so) h))
+
+pub up_step : (p r next : Open) (ks : Stack) (t : Token) (q : State) → Sound p → Sound r → takes r.sort r.state t.kind ≡ false → begins r.sort r.state t.kind ≡ false → tree_of next ≡ child (tree_of p) (tree_of r) → q ≡ on_child p.sort p.state (outcome r.state) → stands p.sort q ≡ true → step (tree_of p ∷ trees_of ks) (tree_of r) (seen t) ≡ step (trees_of ks) (tree_of next) (seen t)
+up_step p r next ks t q sp sr fails none tree n h =
+    step_up (tree_of p) (trees_of ks) (tree_of r) (seen t) (takes_of r t false sr.0 fails) (begins_of r t false sr.0 none)
+    (subst (λ x. stands x (state (child (tree_of p) (tree_of r))) ≡ true) (sym (sort_of p)) (subst (λ x. stands p.sort x ≡ true) (n ∙ sym (child_state p r sp.0 sr.0)) h))
+    ∙ ap (λ x. step (trees_of ks) x (seen t)) (sym tree)
+
+pub stuck_step : (p r : Open) (ks : Stack) (t : Token) (q : State) → Sound p → Sound r → takes r.sort r.state t.kind ≡ false → begins r.sort r.state t.kind ≡ false → q ≡ on_child p.sort p.state (outcome r.state) → stands p.sort q ≡ false → step (tree_of p ∷ trees_of ks) (tree_of r) (seen t) ≡ Stop
+stuck_step p r ks t q sp sr fails none n h =
+    step_stuck (tree_of p) (trees_of ks) (tree_of r) (seen t) (takes_of r t false sr.0 fails) (begins_of r t false sr.0 none)
+    (subst (λ x. stands x (state (child (tree_of p) (tree_of r))) ≡ false) (sym (sort_of p)) (subst (λ x. stands p.sort x ≡ false) (n ∙ sym (child_state p r sp.0 sr.0)) h))
+
+pub bottom_step : (r : Open) (t : Token) → Sound r → takes r.sort r.state t.kind ≡ false → begins r.sort r.state t.kind ≡ false → step [] (tree_of r) (seen t) ≡ Stop
+bottom_step r t sr fails none = step_bottom (tree_of r) (seen t) (takes_of r t false sr.0 fails) (begins_of r t false sr.0 none)
+
+pub over_trees : (o : Open) (b : Box Stack Global) → trees_of (stack.Over o b) ≡ tree_of o ∷ trees_of b.value
+over_trees o b = refl
+
+pub over_sound : (o : Open) (b : Box Stack Global) → AllSound (stack.Over o b) → Sound o × AllSound b.value
+over_sound o b s = s

@@ -1,6 +1,6 @@
 ghost use Rattle.std.specs.Prelude.{◌≡◌, IfOk, IfErr, ◌∷◌};
 ghost use Rattle.l2_grammar.specs.Trees.{token as then_token, child as then_child};
-ghost use Rattle.l2_parse_unit.specs.Parts.{seen, tree_of, trees_of};
+ghost use Rattle.l2_parse_unit.specs.Parts.{seen, tree_of, trees_of, Sound, AllSound};
 
 use crate::error::ReadError;
 use l2_grammar::{Sort, State};
@@ -63,6 +63,7 @@ pub fn with_child(run: Open, state: State, inner: Open) -> Result<Open, ReadErro
 /// A stack with one more construct.
 pub fn over(alloc: Global, run: Open, stack: Stack) -> Result<Stack, ReadError>
     ensures ok { IfOk result (λ s. trees_of s ≡ tree_of run ∷ trees_of stack) }
+    ensures sound { IfOk result (λ s. Sound run × AllSound stack → AllSound s) }
     ensures err { IfErr result (λ f. f ≡ ReadError.NoMemory) }
 {
     match Box::new(alloc, stack) {
