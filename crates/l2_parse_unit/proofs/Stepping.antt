@@ -1,5 +1,5 @@
 -- Steps of the reader over what the code keeps.
-use Rattle.std.proofs.Common.{◌≡◌, List, [], ◌∷◌, Bool, true, false, cond, refl, sym, ap, ◌∙◌, subst}
+use Rattle.std.proofs.Common.{IfOk, IfErr, Result, Ok, Err, ◌≡◌, List, [], ◌∷◌, Bool, true, false, cond, refl, sym, ap, ◌∙◌, subst}
 use Rattle.l2_syntax.specs.declared.token.Token.{Token}
 use Rattle.l2_grammar.specs.declared.states.Sort.{Sort}
 use Rattle.l2_grammar.specs.declared.states.State.{State}
@@ -67,12 +67,12 @@ takes_step run next ks t q s h n tree st so =
         s.1)
 
 pub begins_step : (run inner : Open) (ks rest : Stack) (t : Token) (s : Sort) (q : State) → Sound run × AllSound ks → takes run.sort run.state t.kind ≡ false → begins run.sort run.state t.kind ≡ true → s ≡ opens run.sort run.state → q ≡ on_token s fresh t.kind → tree_of inner ≡ token (begin s) (seen t) → inner.state ≡ q → inner.sort ≡ s → trees_of rest ≡ tree_of run ∷ trees_of ks → AllSound rest → Stepped run ks t inner rest
-begins_step run inner ks rest t s q sound fails yes o n tree st so stack all =
-    let b = begins_of run t true sound.0.0 yes in
+begins_step run inner ks rest t s q sound fails goes o n tree st so stack all =
+    let b = begins_of run t true sound.0.0 goes in
     let here : opens (sort (tree_of run)) (state (tree_of run)) ≡ s = ap (λ x. opens x (state (tree_of run))) (sort_of run) ∙ ap (λ x. opens run.sort x) sound.0.0 ∙ sym o in
     (step_begins (trees_of ks) (tree_of run) (seen t) (takes_of run t false sound.0.0 fails) b ∙ ap (λ x. To (token (begin x) (seen t)) (tree_of run ∷ trees_of ks)) here ∙ ap (λ x. To x (tree_of run ∷ trees_of ks)) (sym tree) ∙ ap (λ x. To (tree_of inner) x) (sym stack),
         (ap state tree ∙ sym n ∙ sym st,
-            subst (λ x. stands inner.sort x ≡ true) (sym (st ∙ n)) (subst (λ x. stands x (on_token s fresh t.kind) ≡ true) (sym so) (subst (λ x. stands x (on_token x fresh t.kind) ≡ true) (sym o) yes))),
+            subst (λ x. stands inner.sort x ≡ true) (sym (st ∙ n)) (subst (λ x. stands x (on_token s fresh t.kind) ≡ true) (sym so) (subst (λ x. stands x (on_token x fresh t.kind) ≡ true) (sym o) goes))),
         all)
 
 pub up_sound : (p r next : Open) (q : State) → Sound p → Sound r → tree_of next ≡ child (tree_of p) (tree_of r) → next.state ≡ q → next.sort ≡ p.sort → q ≡ on_child p.sort p.state (outcome r.state) → stands p.sort q ≡ true → Sound next
@@ -98,3 +98,11 @@ over_trees o b = refl
 
 pub over_sound : (o : Open) (b : Box Stack Global) → AllSound (stack.Over o b) → Sound o × AllSound b.value
 over_sound o b s = s
+
+pub ok_map : {A E : Type 0} (x : Result A E) {P Q : A → Type 0} → ((a : A) → P a → Q a) → IfOk x P → IfOk x Q
+ok_map (Ok a) f h = f a h
+ok_map (Err e) f h = tt
+
+pub err_map : {A E : Type 0} (x : Result A E) {P Q : E → Type 0} → ((e : E) → P e → Q e) → IfErr x P → IfErr x Q
+err_map (Ok a) f h = tt
+err_map (Err e) f h = f e h

@@ -1,9 +1,9 @@
-use Rattle.std.proofs.Common.{◌≡◌, ◌≢◌, IfOk, IfErr, ◌∙◌, Bool, true, false, sym, ap, subst, Result, Ok, Err}
+use Rattle.std.proofs.Common.{◌≡◌, ◌≢◌, IfOk, IfErr, ◌∙◌, Bool, true, false, sym, ap, subst, ℕ, suc, length, ◌<◌, arith}
 use Rattle.l2_grammar.specs.declared.states.State.TheVariants.{Fresh as fresh}
 use Rattle.l2_grammar.specs.Nesting.{stands, on_child, outcome}
 use Rattle.l2_grammar.specs.Reader.{Next, To, Stop, takes, begins, step}
 use Rattle.l2_parse_unit.specs.Parts.{seen, tree_of, trees_of, Sound, AllSound, Stepped}
-use Rattle.l2_parse_unit.proofs.Stepping.{over_sound, up_sound, up_step, stuck_step, bottom_step}
+use Rattle.l2_parse_unit.proofs.Stepping.{over_sound, up_sound, up_step, stuck_step, bottom_step, ok_map, err_map}
 use Rattle.l2_parse_unit.proofs.steps.+step.Goals as goal
 
 pub step-requires : goal.step-requires
@@ -11,7 +11,9 @@ step-requires t c =
     let all = over_sound c.in-Over.outer c.in-Over.rest (subst AllSound c.in-Over.is c.requires.sound.1) in
     let n : c.on_child-state.result ≡ on_child c.in-Over.outer.sort c.in-Over.outer.state (outcome c.args.run.state) = c.on_child-state.ensures ∙ ap (λ x. on_child c.in-Over.outer.sort c.in-Over.outer.state x) c.outcome.ensures in
     let h : stands c.in-Over.outer.sort c.on_child-state.result ≡ true = sym c.stands.ensures ∙ c.if-stands.true in
-    (?, (up_sound c.in-Over.outer c.args.run c.in-Ok.outer c.on_child-state.result all.0 c.requires.sound.0 c.in-Ok.ensures.tree c.in-Ok.ensures.state c.in-Ok.ensures.sort n h,
+    let m : length (trees_of c.args.stack) ≡ suc (length (trees_of c.into_inner.result)) = ap (λ x. length (trees_of x)) c.in-Over.is ∙ ap (λ x. suc (length (trees_of x))) (sym c.into_inner.ensures) in
+    let l : length (trees_of c.into_inner.result) < length (trees_of c.args.stack) = omega arith in
+    (omega arith, (up_sound c.in-Over.outer c.args.run c.in-Ok.outer c.on_child-state.result all.0 c.requires.sound.0 c.in-Ok.ensures.tree c.in-Ok.ensures.state c.in-Ok.ensures.sort n h,
         subst AllSound (sym c.into_inner.ensures) all.1))
 
 pub returns-in-Bottom-clause-err : goal.returns-in-Bottom-clause-err
@@ -31,7 +33,7 @@ returns-in-Ok-clause-ok t c =
         ap (λ x. step (trees_of x) (tree_of c.args.run) (seen c.args.token)) c.in-Over.is
         ∙ up_step c.in-Over.outer c.args.run c.in-Ok.outer c.in-Over.rest.value c.args.token c.on_child-state.result all.0 c.requires.sound.0 no1 no2 c.in-Ok.ensures.tree n h
         ∙ ap (λ x. step (trees_of x) (tree_of c.in-Ok.outer) (seen c.args.token)) (sym c.into_inner.ensures) in
-    ?
+    ok_map c.step.result (λ r p. (e ∙ p.0, p.1, p.2)) c.step.ensures.ok
 
 pub returns-in-Ok-clause-err : goal.returns-in-Ok-clause-err
 returns-in-Ok-clause-err t c =
@@ -44,7 +46,7 @@ returns-in-Ok-clause-err t c =
         ap (λ x. step (trees_of x) (tree_of c.args.run) (seen c.args.token)) c.in-Over.is
         ∙ up_step c.in-Over.outer c.args.run c.in-Ok.outer c.in-Over.rest.value c.args.token c.on_child-state.result all.0 c.requires.sound.0 no1 no2 c.in-Ok.ensures.tree n h
         ∙ ap (λ x. step (trees_of x) (tree_of c.in-Ok.outer) (seen c.args.token)) (sym c.into_inner.ensures) in
-    ?
+    err_map c.step.result (λ f p d. e ∙ p d) c.step.ensures.err
 
 pub returns-else-stands-clause-err : goal.returns-else-stands-clause-err
 returns-else-stands-clause-err t c =
