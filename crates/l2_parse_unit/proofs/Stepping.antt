@@ -7,7 +7,10 @@ use Rattle.l2_grammar.specs.declared.states.State.TheVariants.{Fresh as fresh}
 use Rattle.l2_grammar.specs.Networks.{on_token}
 use Rattle.l2_grammar.specs.Nesting.{opens, stands, outcome, on_child}
 use Rattle.l2_grammar.specs.Trees.{Seen, Tree, begin, token, child, sort, state}
-use Rattle.l2_grammar.specs.Reader.{Next, Stop, To, takes, begins, step}
+use Rattle.l2_grammar.specs.Reader.{Next, Stop, To, takes, begins, step, Verdict, Stops, Reads, finished, finish, on_next, feed}
+use Rattle.l2_grammar.specs.declared.states.Sort.TheVariants.{Unit as unit}
+use Rattle.l2_grammar.specs.declared.states.State.TheVariants.{UnitEnd as unit_end}
+use Rattle.l2_parse_unit.specs.Parts.{is_end}
 use Rattle.l2_grammar.proofs.Bools.{cond_true, cond_false}
 use Rattle.l2_parse_unit.specs.declared.syntax.Syntax as syntax
 use Rattle.l2_parse_unit.specs.declared.syntax.Syntax.{Syntax}
@@ -106,3 +109,27 @@ ok_map (Err e) f h = tt
 pub err_map : {A E : Type 0} (x : Result A E) {P Q : E → Type 0} → ((e : E) → P e → Q e) → IfErr x P → IfErr x Q
 err_map (Ok a) f h = tt
 err_map (Err e) f h = f e h
+
+finished_true : (q : State) (r : Tree) → is_end q ≡ true → finished q r ≡ Reads r
+finished_true unit_end r e = refl
+finished_true q r e = absurd (cc)
+
+finished_false : (q : State) (r : Tree) → is_end q ≡ false → finished q r ≡ Stops []
+finished_false unit_end r e = absurd (cc)
+finished_false q r e = refl
+
+pub ends_whole : (o : Open) → Sound o → is_end o.state ≡ true → finish (tree_of o) [] ≡ Reads (tree_of o)
+ends_whole o s e = ap (λ q. finished q (tree_of o)) s.0 ∙ finished_true o.state (tree_of o) e
+
+pub ends_early : (o : Open) → Sound o → is_end o.state ≡ false → finish (tree_of o) [] ≡ Stops []
+ends_early o s e = ap (λ q. finished q (tree_of o)) s.0 ∙ finished_false o.state (tree_of o) e
+
+pub fresh_sound : stands unit fresh ≡ true
+unfolding stands
+fresh_sound = refl
+
+pub feed_step : (ts : List Seen) (t : Seen) (r r' : Tree) (ks ks' : List Tree) → step ks r t ≡ To r' ks' → feed (t ∷ ts) r ks ≡ feed ts r' ks'
+feed_step ts t r r' ks ks' e = ap (λ (n : Next). on_next n (feed ts) (t ∷ ts)) e
+
+pub feed_stop : (ts : List Seen) (t : Seen) (r : Tree) (ks : List Tree) → step ks r t ≡ Stop → feed (t ∷ ts) r ks ≡ Stops (t ∷ ts)
+feed_stop ts t r ks e = ap (λ (n : Next). on_next n (feed ts) (t ∷ ts)) e

@@ -1,5 +1,9 @@
 -- The trees of what the reader builds.
-use Rattle.std.specs.Prelude.{◌≡◌, List, [], ◌∷◌, true}
+use Rattle.std.specs.Prelude.{◌≡◌, ℕ, List, [], ◌∷◌, Bool, true, false}
+use Rattle.l2_grammar.specs.declared.states.State.{State}
+use Rattle.l2_grammar.specs.declared.states.State.TheVariants.{UnitEnd as unit_end}
+use Rattle.l2_parse_unit.specs.declared.error.ParseError.{ParseError}
+use Rattle.l2_parse_unit.specs.declared.error.ParseError.TheVariants.{At, NoMemory}
 use Rattle.l2_syntax.specs.declared.token.Token.{Token}
 use Rattle.l2_grammar.specs.Trees.{Seen, Tree, begin, token, child, state}
 use Rattle.l2_grammar.specs.Nesting.{stands}
@@ -44,3 +48,12 @@ AllSound (stack.Over' o a rest) = Sound o × AllSound rest
 -- what the token does to the construct and those round it, and that they stay sound
 abbrev pub Stepped : Open → Stack → Token → Open → Stack → Type 0
 Stepped run ks t next rest = (step (trees_of ks) (tree_of run) (seen t) ≡ To (tree_of next) (trees_of rest)) × Sound next × AllSound rest
+
+abbrev pub is_end : State → Bool
+is_end unit_end = true
+is_end q = false
+
+-- the index of the token at which reading stops
+abbrev pub place_of : ParseError → ℕ
+place_of (At i) = i
+place_of NoMemory = 0

@@ -2,9 +2,11 @@
 #![tactic(auto)]
 
 mod error;
+mod reader;
 mod steps;
 mod syntax;
 
 pub use steps::step;
-pub use error::ReadError;
+pub use error::{ParseError, ReadError};
+pub use reader::read;
 pub use syntax::{Open, Stack, Syntax};
