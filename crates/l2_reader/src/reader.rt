@@ -2,7 +2,7 @@ ghost use Rattle.std.specs.Prelude.{◌≡◌, ◌≢◌, [], map, drop, length,
 ghost use Rattle.l2_grammar.specs.Trees.{begin};
 ghost use Rattle.l2_grammar.specs.Law.{Spells, StopsBefore};
 ghost use Rattle.l2_grammar.specs.Reader.{feed, finish as finished_as, Reads, Stops};
-ghost use Rattle.l2_parse_unit.specs.Parts.{seen, tree_of, trees_of, Sound, AllSound, is_end, place_of};
+ghost use Rattle.l2_reader.specs.Parts.{seen, tree_of, trees_of, Sound, AllSound, is_end, place_of};
 
 use crate::error::{ParseError, ReadError};
 use crate::steps::step;
@@ -25,7 +25,11 @@ fn finish(run: Open, stack: Stack, at: usize) -> Result<Open, ParseError>
     ensures place { IfErr result (λ f. f ≡ ParseError.At at) }
 {
     match stack {
-        Stack::Bottom => if is_end(run.state) { Ok(run) } else { Err(ParseError::At(at)) },
+        Stack::Bottom => if is_end(run.state) {
+            Ok(run)
+        } else {
+            Err(ParseError::At(at))
+        },
         _ => Err(ParseError::At(at)),
     }
 }
@@ -45,7 +49,11 @@ fn read_all(alloc: Global, tokens: &[Token]) -> Result<Open, ParseError>
     ensures ok { IfOk result (λ r. feed (map seen tokens.now) (begin Sort.Unit) [] ≡ Reads (tree_of r)) }
     ensures err { IfErr result (λ f. f ≢ ParseError.NoMemory → feed (map seen tokens.now) (begin Sort.Unit) [] ≡ Stops (map seen (drop (place_of f) tokens.now))) }
 {
-    let mut run = Open { sort: Sort::Unit, state: State::Fresh, parts: Vec::new(alloc) };
+    let mut run = Open {
+        sort: Sort::Unit,
+        state: State::Fresh,
+        parts: Vec::new(alloc),
+    };
     let mut stack = Stack::Bottom;
     let mut at = 0;
     for token in tokens {

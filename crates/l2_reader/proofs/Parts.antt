@@ -4,10 +4,10 @@ use Rattle.std.specs.declared.vec.Vec.{Vec}
 use Rattle.std.specs.declared.alloc.Global.{Global}
 use Rattle.l2_grammar.specs.declared.states.Sort.{Sort}
 use Rattle.l2_grammar.specs.Trees.{Tree, begin, child}
-use Rattle.l2_parse_unit.specs.declared.syntax.Syntax as syntax
-use Rattle.l2_parse_unit.specs.declared.syntax.Syntax.{Syntax, Row_of-Syntax, end_of-Syntax, more_of-Syntax, items-the_row-Syntax, items_hidden-the_row-Syntax-0}
-use Rattle.l2_parse_unit.specs.declared.syntax.Syntax.TheBlock as block
-use Rattle.l2_parse_unit.specs.Parts.{with_part, row_onto, parts_onto}
+use Rattle.l2_reader.specs.declared.syntax.Syntax as syntax
+use Rattle.l2_reader.specs.declared.syntax.Syntax.{Syntax, Row_of-Syntax, end_of-Syntax, more_of-Syntax, items-the_row-Syntax, items_hidden-the_row-Syntax-0}
+use Rattle.l2_reader.specs.declared.syntax.Syntax.TheBlock as block
+use Rattle.l2_reader.specs.Parts.{with_part, row_onto, parts_onto}
 
 pub parts_onto-end : (r : Tree) (xs : List Syntax) (x : Syntax) → parts_onto r (xs ++ (x ∷ [])) ≡ with_part (parts_onto r xs) x
 parts_onto-end r [] x = refl

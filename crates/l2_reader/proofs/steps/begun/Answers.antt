@@ -1,8 +1,8 @@
-use Rattle.std.proofs.Common.{◌≡◌, ◌∙◌, ap}
+use Rattle.std.proofs.Common.{◌∙◌, ap}
 use Rattle.l2_grammar.specs.Trees.{token, begin}
-use Rattle.l2_parse_unit.specs.Parts.{seen, parts_onto}
-use Rattle.l2_parse_unit.proofs.Stepping.{begins_step}
-use Rattle.l2_parse_unit.proofs.steps.begun.Goals as goal
+use Rattle.l2_reader.specs.Parts.{seen, parts_onto}
+use Rattle.l2_reader.proofs.Stepping.{begins_step}
+use Rattle.l2_reader.proofs.steps.begun.Goals as goal
 
 pub returns-in-Ok-over-clause-ok : goal.returns-in-Ok-over-clause-ok
 returns-in-Ok-over-clause-ok c =

@@ -5,8 +5,10 @@ mod error;
 mod reader;
 mod steps;
 mod syntax;
+#[cfg(test)]
+mod tests;
 
-pub use steps::step;
 pub use error::{ParseError, ReadError};
 pub use reader::read;
+pub use steps::step;
 pub use syntax::{Open, Stack, Syntax};

@@ -1,5 +1,5 @@
 -- Steps of the reader over what the code keeps.
-use Rattle.std.proofs.Common.{IfOk, IfErr, Result, Ok, Err, ◌≡◌, List, [], ◌∷◌, Bool, true, false, cond, refl, sym, ap, ◌∙◌, subst}
+use Rattle.std.proofs.Common.{IfOk, IfErr, Result, Ok, Err, ◌≡◌, List, [], ◌∷◌, Bool, true, false, refl, sym, ap, ◌∙◌, subst}
 use Rattle.l2_syntax.specs.declared.token.Token.{Token}
 use Rattle.l2_grammar.specs.declared.states.Sort.{Sort}
 use Rattle.l2_grammar.specs.declared.states.State.{State}
@@ -7,19 +7,19 @@ use Rattle.l2_grammar.specs.declared.states.State.TheVariants.{Fresh as fresh}
 use Rattle.l2_grammar.specs.Networks.{on_token}
 use Rattle.l2_grammar.specs.Nesting.{opens, stands, outcome, on_child}
 use Rattle.l2_grammar.specs.Trees.{Seen, Tree, begin, token, child, sort, state}
-use Rattle.l2_grammar.specs.Reader.{Next, Stop, To, takes, begins, step, Verdict, Stops, Reads, finished, finish, on_next, feed}
+use Rattle.l2_grammar.specs.Reader.{Next, Stop, To, takes, begins, step, Stops, Reads, finished, finish, on_next, feed}
 use Rattle.l2_grammar.specs.declared.states.Sort.TheVariants.{Unit as unit}
 use Rattle.l2_grammar.specs.declared.states.State.TheVariants.{UnitEnd as unit_end}
-use Rattle.l2_parse_unit.specs.Parts.{is_end}
+use Rattle.l2_reader.specs.Parts.{is_end}
 use Rattle.l2_grammar.proofs.Bools.{cond_true, cond_false}
-use Rattle.l2_parse_unit.specs.declared.syntax.Syntax as syntax
-use Rattle.l2_parse_unit.specs.declared.syntax.Syntax.{Syntax}
-use Rattle.l2_parse_unit.specs.declared.syntax.Open.{Open}
-use Rattle.l2_parse_unit.specs.declared.syntax.Stack.{Stack}
-use Rattle.l2_parse_unit.specs.declared.syntax.Stack as stack
+use Rattle.l2_reader.specs.declared.syntax.Syntax as syntax
+use Rattle.l2_reader.specs.declared.syntax.Syntax.{Syntax}
+use Rattle.l2_reader.specs.declared.syntax.Open.{Open}
+use Rattle.l2_reader.specs.declared.syntax.Stack.{Stack}
+use Rattle.l2_reader.specs.declared.syntax.Stack as stack
 use Rattle.std.specs.declared.boxed.Box.{Box}
 use Rattle.std.specs.declared.alloc.Global.{Global}
-use Rattle.l2_parse_unit.specs.Parts.{seen, with_part, parts_onto, tree_of, trees_of, Sound, AllSound, Stepped}
+use Rattle.l2_reader.specs.Parts.{seen, with_part, parts_onto, tree_of, trees_of, Sound, AllSound, Stepped}
 
 with_part_sort : (r : Tree) (x : Syntax) → sort (with_part r x) ≡ sort r
 with_part_sort r (syntax.Token t) = refl
@@ -63,20 +63,26 @@ pub child_state : (p r : Open) → state (tree_of p) ≡ p.state → state (tree
 child_state p r e f = ap (λ s. on_child s (state (tree_of p)) (outcome (state (tree_of r)))) (sort_of p) ∙ ap (λ q. on_child p.sort q (outcome (state (tree_of r)))) e ∙ ap (λ q. on_child p.sort p.state (outcome q)) f
 
 pub takes_step : (run next : Open) (ks : Stack) (t : Token) (q : State) → Sound run × AllSound ks → takes run.sort run.state t.kind ≡ true → q ≡ on_token run.sort run.state t.kind → tree_of next ≡ token (tree_of run) (seen t) → next.state ≡ q → next.sort ≡ run.sort → Stepped run ks t next ks
-takes_step run next ks t q s h n tree st so =
-    (step_takes (trees_of ks) (tree_of run) (seen t) (takes_of run t true s.0.0 h) ∙ ap (λ x. To x (trees_of ks)) (sym tree),
-        (ap state tree ∙ token_state run t s.0.0 ∙ sym n ∙ sym st,
-            subst (λ x. stands next.sort x ≡ true) (sym (st ∙ n)) (subst (λ x. stands x (on_token run.sort run.state t.kind) ≡ true) (sym so) h)),
-        s.1)
+takes_step run next ks t q s h n tree st so = (
+  step_takes (trees_of ks) (tree_of run) (seen t) (takes_of run t true s.0.0 h) ∙ ap (λ x. To x (trees_of ks)) (sym tree),
+  (
+    ap state tree ∙ token_state run t s.0.0 ∙ sym n ∙ sym st,
+    subst (λ x. stands next.sort x ≡ true) (sym (st ∙ n)) (subst (λ x. stands x (on_token run.sort run.state t.kind) ≡ true) (sym so) h),
+  ),
+  s.1,
+)
 
 pub begins_step : (run inner : Open) (ks rest : Stack) (t : Token) (s : Sort) (q : State) → Sound run × AllSound ks → takes run.sort run.state t.kind ≡ false → begins run.sort run.state t.kind ≡ true → s ≡ opens run.sort run.state → q ≡ on_token s fresh t.kind → tree_of inner ≡ token (begin s) (seen t) → inner.state ≡ q → inner.sort ≡ s → trees_of rest ≡ tree_of run ∷ trees_of ks → AllSound rest → Stepped run ks t inner rest
 begins_step run inner ks rest t s q sound fails goes o n tree st so stack all =
     let b = begins_of run t true sound.0.0 goes in
-    let here : opens (sort (tree_of run)) (state (tree_of run)) ≡ s = ap (λ x. opens x (state (tree_of run))) (sort_of run) ∙ ap (λ x. opens run.sort x) sound.0.0 ∙ sym o in
-    (step_begins (trees_of ks) (tree_of run) (seen t) (takes_of run t false sound.0.0 fails) b ∙ ap (λ x. To (token (begin x) (seen t)) (tree_of run ∷ trees_of ks)) here ∙ ap (λ x. To x (tree_of run ∷ trees_of ks)) (sym tree) ∙ ap (λ x. To (tree_of inner) x) (sym stack),
-        (ap state tree ∙ sym n ∙ sym st,
-            subst (λ x. stands inner.sort x ≡ true) (sym (st ∙ n)) (subst (λ x. stands x (on_token s fresh t.kind) ≡ true) (sym so) (subst (λ x. stands x (on_token x fresh t.kind) ≡ true) (sym o) goes))),
-        all)
+    let here : opens (sort (tree_of run)) (state (tree_of run)) ≡ s = ap (λ x. opens x (state (tree_of run))) (sort_of run) ∙ ap (λ x. opens run.sort x) sound.0.0 ∙ sym o in (
+      step_begins (trees_of ks) (tree_of run) (seen t) (takes_of run t false sound.0.0 fails) b ∙ ap (λ x. To (token (begin x) (seen t)) (tree_of run ∷ trees_of ks)) here ∙ ap (λ x. To x (tree_of run ∷ trees_of ks)) (sym tree) ∙ ap (λ x. To (tree_of inner) x) (sym stack),
+      (
+        ap state tree ∙ sym n ∙ sym st,
+        subst (λ x. stands inner.sort x ≡ true) (sym (st ∙ n)) (subst (λ x. stands x (on_token s fresh t.kind) ≡ true) (sym so) (subst (λ x. stands x (on_token x fresh t.kind) ≡ true) (sym o) goes)),
+      ),
+      all,
+    )
 
 pub up_sound : (p r next : Open) (q : State) → Sound p → Sound r → tree_of next ≡ child (tree_of p) (tree_of r) → next.state ≡ q → next.sort ≡ p.sort → q ≡ on_child p.sort p.state (outcome r.state) → stands p.sort q ≡ true → Sound next
 up_sound p r next q sp sr tree st so n h =

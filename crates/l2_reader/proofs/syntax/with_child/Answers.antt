@@ -1,10 +1,10 @@
-use Rattle.std.proofs.Common.{◌≡◌, ◌∙◌, ◌++◌, ◌∷◌, [], ap}
+use Rattle.std.proofs.Common.{◌∙◌, ◌++◌, ◌∷◌, [], ap}
 use Rattle.std.specs.Prelude.{if◌then◌else◌, is_ok}
 use Rattle.l2_grammar.specs.Trees.{begin}
-use Rattle.l2_parse_unit.specs.declared.syntax.Syntax as syntax
-use Rattle.l2_parse_unit.specs.Parts.{parts_onto, tree_of}
-use Rattle.l2_parse_unit.proofs.Parts.{parts_onto-end, with_part-Construct}
-use Rattle.l2_parse_unit.proofs.syntax.with_child.Goals as goal
+use Rattle.l2_reader.specs.declared.syntax.Syntax as syntax
+use Rattle.l2_reader.specs.Parts.{parts_onto, tree_of}
+use Rattle.l2_reader.proofs.Parts.{parts_onto-end, with_part-Construct}
+use Rattle.l2_reader.proofs.syntax.with_child.Goals as goal
 
 pub returns-in-Ok-clause-tree : goal.returns-in-Ok-clause-tree
 returns-in-Ok-clause-tree c =

@@ -1,10 +1,10 @@
-use Rattle.std.proofs.Common.{◌≡◌, [], map, refl, sym, ap}
+use Rattle.std.proofs.Common.{[], map, refl, sym, ap}
 use Rattle.l2_grammar.specs.declared.states.Sort.TheVariants.{Unit as unit}
 use Rattle.l2_grammar.specs.Trees.{begin, state}
 use Rattle.l2_grammar.specs.Reader.{feed}
-use Rattle.l2_parse_unit.specs.Parts.{seen, parts_onto}
-use Rattle.l2_parse_unit.proofs.Stepping.{fresh_sound}
-use Rattle.l2_parse_unit.proofs.reader.read_all.Goals as goal
+use Rattle.l2_reader.specs.Parts.{seen, parts_onto}
+use Rattle.l2_reader.proofs.Stepping.{fresh_sound}
+use Rattle.l2_reader.proofs.reader.read_all.Goals as goal
 
 pub loop-token-init : goal.loop-token-init
 loop-token-init c =

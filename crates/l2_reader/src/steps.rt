@@ -1,7 +1,7 @@
 ghost use Rattle.std.specs.Prelude.{◌≡◌, ◌≢◌, IfOk, IfErr, true, false};
 ghost use Rattle.l2_grammar.specs.Nesting.{stands as may_stand, opens as opened};
 ghost use Rattle.l2_grammar.specs.Reader.{Stop, takes, begins, step as next_of};
-ghost use Rattle.l2_parse_unit.specs.Parts.{seen, tree_of, trees_of, Sound, AllSound, Stepped};
+ghost use Rattle.l2_reader.specs.Parts.{seen, tree_of, trees_of, Sound, AllSound, Stepped};
 
 use crate::error::ReadError;
 use crate::syntax::{Open, Stack, over, with_child, with_token};
@@ -34,7 +34,11 @@ fn begun(alloc: Global, run: Open, stack: Stack, token: Token) -> Result<(Open, 
 {
     let sort = opens(run.sort, run.state);
     let next = on_token(sort, State::Fresh, token.kind);
-    let inner = Open { sort, state: State::Fresh, parts: Vec::new(alloc) };
+    let inner = Open {
+        sort,
+        state: State::Fresh,
+        parts: Vec::new(alloc),
+    };
     match with_token(inner, next, token) {
         Ok(inner) => match over(alloc, run, stack) {
             Ok(stack) => Ok((inner, stack)),
@@ -52,7 +56,12 @@ fn goes_on(sort: Sort, state: State, token: Token) -> bool
 }
 
 /// What a token does: the construct goes on, or one begins in it, or it ends and the one round it goes on.
-pub fn step(alloc: Global, run: Open, stack: Stack, token: Token) -> Result<(Open, Stack), ReadError>
+pub fn step(
+    alloc: Global,
+    run: Open,
+    stack: Stack,
+    token: Token,
+) -> Result<(Open, Stack), ReadError>
     requires sound { Sound run × AllSound stack }
     ensures ok { IfOk result (λ r. Stepped run stack token r.0 r.1) }
     ensures err { IfErr result (λ f. f ≢ ReadError.NoMemory → next_of (trees_of stack) (tree_of run) (seen token) ≡ Stop) }

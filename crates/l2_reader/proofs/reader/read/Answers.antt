@@ -1,8 +1,8 @@
 use Rattle.std.proofs.Common.{map, drop}
 use Rattle.l2_grammar.proofs.Reading.{spelled, stops}
-use Rattle.l2_parse_unit.specs.Parts.{seen, tree_of, place_of}
-use Rattle.l2_parse_unit.proofs.Stepping.{ok_map, err_map}
-use Rattle.l2_parse_unit.proofs.reader.read.Goals as goal
+use Rattle.l2_reader.specs.Parts.{seen, tree_of, place_of}
+use Rattle.l2_reader.proofs.Stepping.{ok_map, err_map}
+use Rattle.l2_reader.proofs.reader.read.Goals as goal
 
 pub returns-clause-ok : goal.returns-clause-ok
 returns-clause-ok c = ok_map c.read_all.result (λ r p. spelled (map seen c.args.tokens.now) (tree_of r) p) c.read_all.ensures.ok

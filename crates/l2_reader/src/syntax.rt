@@ -1,6 +1,6 @@
 ghost use Rattle.std.specs.Prelude.{◌≡◌, IfOk, IfErr, ◌∷◌};
 ghost use Rattle.l2_grammar.specs.Trees.{token as then_token, child as then_child};
-ghost use Rattle.l2_parse_unit.specs.Parts.{seen, tree_of, trees_of, Sound, AllSound};
+ghost use Rattle.l2_reader.specs.Parts.{seen, tree_of, trees_of, Sound, AllSound};
 
 use crate::error::ReadError;
 use l2_grammar::{Sort, State};
@@ -37,7 +37,11 @@ pub fn with_token(run: Open, state: State, token: Token) -> Result<Open, ReadErr
     ensures sort { IfOk result (λ r. r.sort ≡ run.sort) }
     ensures err { IfErr result (λ f. f ≡ ReadError.NoMemory) }
 {
-    let Open { sort, state: _, mut parts } = run;
+    let Open {
+        sort,
+        state: _,
+        mut parts,
+    } = run;
     match parts.push(Syntax::Token(token)) {
         Ok(()) => Ok(Open { sort, state, parts }),
         Err(_) => Err(ReadError::NoMemory),
@@ -52,8 +56,16 @@ pub fn with_child(run: Open, state: State, inner: Open) -> Result<Open, ReadErro
     ensures sort { IfOk result (λ r. r.sort ≡ run.sort) }
     ensures err { IfErr result (λ f. f ≡ ReadError.NoMemory) }
 {
-    let Open { sort, state: _, mut parts } = run;
-    let Open { sort: inner_sort, state: _, parts: inner_parts } = inner;
+    let Open {
+        sort,
+        state: _,
+        mut parts,
+    } = run;
+    let Open {
+        sort: inner_sort,
+        state: _,
+        parts: inner_parts,
+    } = inner;
     match parts.push(Syntax::Construct(inner_sort, inner_parts)) {
         Ok(()) => Ok(Open { sort, state, parts }),
         Err(_) => Err(ReadError::NoMemory),

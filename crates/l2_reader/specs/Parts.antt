@@ -2,17 +2,17 @@
 use Rattle.std.specs.Prelude.{◌≡◌, ℕ, List, [], ◌∷◌, Bool, true, false}
 use Rattle.l2_grammar.specs.declared.states.State.{State}
 use Rattle.l2_grammar.specs.declared.states.State.TheVariants.{UnitEnd as unit_end}
-use Rattle.l2_parse_unit.specs.declared.error.ParseError.{ParseError}
-use Rattle.l2_parse_unit.specs.declared.error.ParseError.TheVariants.{At, NoMemory}
+use Rattle.l2_reader.specs.declared.error.ParseError.{ParseError}
+use Rattle.l2_reader.specs.declared.error.ParseError.TheVariants.{At, NoMemory}
 use Rattle.l2_syntax.specs.declared.token.Token.{Token}
 use Rattle.l2_grammar.specs.Trees.{Seen, Tree, begin, token, child, state}
 use Rattle.l2_grammar.specs.Nesting.{stands}
 use Rattle.l2_grammar.specs.Reader.{step, To}
-use Rattle.l2_parse_unit.specs.declared.syntax.Syntax as syntax
-use Rattle.l2_parse_unit.specs.declared.syntax.Syntax.{Syntax, Row_of-Syntax, end_of-Syntax, more_of-Syntax}
-use Rattle.l2_parse_unit.specs.declared.syntax.Open.{Open}
-use Rattle.l2_parse_unit.specs.declared.syntax.Stack.{Stack}
-use Rattle.l2_parse_unit.specs.declared.syntax.Stack as stack
+use Rattle.l2_reader.specs.declared.syntax.Syntax as syntax
+use Rattle.l2_reader.specs.declared.syntax.Syntax.{Syntax, Row_of-Syntax, end_of-Syntax, more_of-Syntax}
+use Rattle.l2_reader.specs.declared.syntax.Open.{Open}
+use Rattle.l2_reader.specs.declared.syntax.Stack.{Stack}
+use Rattle.l2_reader.specs.declared.syntax.Stack as stack
 
 abbrev pub seen : Token → Seen
 seen t = record { kind = t.kind; at = t.place }
