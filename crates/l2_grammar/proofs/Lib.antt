@@ -1,0 +1,15 @@
+pub mod Bools
+pub mod Tokens
+pub mod Nests
+pub mod Ends
+pub mod Follow
+pub mod Fed
+pub mod Taken
+pub mod Whole
+pub mod Statements
+pub mod Declarations
+pub mod Declarators
+pub mod Complete
+pub mod Kept
+pub mod Reading
+pub mod Limits

@@ -1,0 +1,8 @@
+pub mod Marks
+pub mod States
+pub mod Networks
+pub mod Nesting
+pub mod Trees
+pub mod Reader
+pub mod Law
+pub mod Limits
