@@ -1,0 +1,6 @@
+pub mod Closed
+pub mod Moves
+pub mod Visits
+pub mod Outcomes
+pub mod Rounds
+pub mod Pasts
