@@ -4,3 +4,4 @@ pub mod Visits
 pub mod Outcomes
 pub mod Rounds
 pub mod Pasts
+pub mod Boards

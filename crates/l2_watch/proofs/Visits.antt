@@ -43,7 +43,7 @@ handled_extends clauses old new before after a r Keeps h = h.2
 handled_extends clauses old new before after a r Moved h = inl h.0
 handled_extends clauses old new before after a r Conflict h = inl h.1
 
-not_self : (l : ℤ) → 1 ≤ nat_abs l → l ≡ neg_ℤ l → ⊥
+pub not_self : (l : ℤ) → 1 ≤ nat_abs l → l ≡ neg_ℤ l → ⊥
 not_self (pos zero) h e = absurd (omega arith)
 not_self (pos (suc n)) h e = cc
 not_self (negsuc n) h e = cc

@@ -1,5 +1,5 @@
 -- Clauses, the literals that are true with what made them so, and the levels of what was decided.
-use Rattle.std.specs.Prelude.{◌≡◌, ◌≢◌, ◌⊎◌, ℕ, suc, zero, ◌+◌, ◌*◌, ◌<◌, ◌≤◌, ◌^◌, Bool, true, ℤ, pos, neg_ℤ, nat_abs, List, [], length, take, Contains, slice_index_or}
+use Rattle.std.specs.Prelude.{◌≡◌, ◌≢◌, ◌⊎◌, ℕ, suc, zero, ◌+◌, ◌*◌, ◌<◌, ◌≤◌, ◌^◌, Bool, true, ℤ, pos, neg_ℤ, nat_abs, List, [], length, take, Contains, slice_index_or, ◌++◌, ◌∷◌}
 use Rattle.l2_cnf.specs.Trail.{AreOver, AreApart}
 use Rattle.l2_watch.specs.Past.{Past, IsReason}
 use Rattle.l2_watch.specs.Watch.{IsConsistent, IsPair, IsClosed}
@@ -64,7 +64,7 @@ pub record AreStored (clauses : List (List ℤ)) (variables : ℕ) (pairs : List
 -- the watched literals guard the clauses, at each level too
 pub record AreWatched (clauses : List (List ℤ)) (variables : ℕ) (pairs : List (ℤ × ℤ)) (past : Past) (levels : List (ℕ × ℤ)) (seen : ℕ) : Type 0 where
   pub full : (r : ℕ) → r < length clauses → slice_index_or clauses r [] ≢ []
-  pub variables : past.variables ≡ variables
+  pub same : past.variables ≡ variables
   pub guarded : AreGuarded pairs (take seen past.literals) past.literals
   pub parts : (j : ℕ) → j < length levels → AreGuarded pairs (take (start_of levels j) past.literals) (take (start_of levels j) past.literals)
 
@@ -72,7 +72,21 @@ pub record AreWatched (clauses : List (List ℤ)) (variables : ℕ) (pairs : Lis
 pub record IsKept (clauses : List (List ℤ)) (variables : ℕ) (pairs : List (ℤ × ℤ)) (lists : List (List ℕ)) (past : Past) (levels : List (ℕ × ℤ)) (seen : ℕ) (ready : Bool) : Type 0 where
   pub stored : AreStored clauses variables pairs lists
   pub within : past.variables ≤ variables
-  pub seen : seen ≤ length past.literals
-  pub levels : AreLevels past.literals levels
+  pub looked : seen ≤ length past.literals
+  pub opened : AreLevels past.literals levels
   pub caused : AreCaused clauses past.literals levels past.reasons
   pub watched : ready ≡ true → AreWatched clauses variables pairs past levels seen
+
+-- a literal that was unset became true, or it was true before
+abbrev pub IsDecided : List ℤ → List ℤ → ℤ → Type 0
+IsDecided old new l = ((Contains old l) × (new ≡ old)) ⊎ ((¬ Contains old l) × (new ≡ old ++ l ∷ []))
+
+-- A clause that may be learnt: u is unset, the others are false, and w wasn't false when any level was opened.
+pub record IsLearnt (literals : List ℤ) (levels : List (ℕ × ℤ)) (clause : List ℤ) (u w : ℤ) : Type 0 where
+  pub first : Contains clause u
+  pub second : Contains clause w
+  pub unset : ¬ Contains literals u
+  pub live : ¬ Contains literals (neg_ℤ u)
+  pub others : (m : ℤ) → Contains clause m → m ≢ u → Contains literals (neg_ℤ m)
+  pub late : (j : ℕ) → j < length levels → ¬ Contains (take (start_of levels j) literals) (neg_ℤ w)
+  pub one : u ≡ w → (levels ≡ []) × ((m : ℤ) → Contains clause m → m ≡ u)

@@ -1,0 +1,10 @@
+use Rattle.std.proofs.Common.{◌≡◌, ◌≤◌, ◌<◌, ℕ, sym, ap, ◌∙◌, arith, length, get_or, true, subst, List}
+use Rattle.std.specs.Prelude.{ℤ, pos}
+use Rattle.l2_cnf.specs.Trail.{AreOver}
+use Rattle.l2_watch.proofs.Boards.{IsKept-raised}
+use Rattle.l2_watch.proofs.board.Watch.raise_all.Goals as goal
+
+pub raise-requires-clause-over : goal.raise-requires-clause-over
+raise-requires-clause-over c = λ clause h.
+    let same : c.self.inside.history.variables ≡ c.self.inside.variables = ap (λ b. b.past.variables) c.self.view_is ∙ c.requires.room ∙ sym (ap (λ b. b.variables) c.self.view_is) in
+    subst (λ n. AreOver n clause) (sym same) (c.self.invariant.stored.over clause h)
