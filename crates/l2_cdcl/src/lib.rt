@@ -1,0 +1,6 @@
+//! A conflict-driven clause learning solver.
+#![tactic(auto)]
+
+mod analysis;
+mod marks;
+mod order;
