@@ -11,7 +11,9 @@ use Rattle.l2_cnf.specs.Logic.{Propagates, assumed, unit, Conflicts}
 use Rattle.l2_watch.specs.Past.{IsReason}
 use Rattle.l2_watch.specs.Watch.{IsClosed, Refutes}
 use Rattle.l2_watch.specs.Board.{Board, IsBoard, start_of, decision_of, HasCause, AreCaused}
-use Rattle.l2_watch.proofs.Closed.{Refutes-resolve, no_conflict_within}
+use Rattle.l2_watch.proofs.Closed.{Refutes-resolve, Refutes-clause, no_conflict_within}
+use Rattle.l2_watch.specs.Visit.{AreFalse}
+use Rattle.l2_cdcl.specs.Level.{IsPresent}
 use Rattle.l2_cdcl.specs.Analysis.{IsMarked, AreUnmarked, IsFalseBefore, IsOpen, IsAside, IsMore, IsTraced, IsPoint}
 
 -- more literals are refuted too
@@ -185,3 +187,62 @@ module _ (trail : List ℤ) (low start place : ℕ) (marks : List Bool) (aside :
       },
       inl (Contains-push aside l)
     )
+
+-- what was decided stands where its level opened
+pub cause_zero : (clauses : List (List ℤ)) (literals : List ℤ) (levels : List (ℕ × ℤ)) (k reason : ℕ) → HasCause clauses literals levels k reason → reason ≡ 0 → (j : ℕ) × (j < length levels) × (start_of levels j ≡ k) × (decision_of levels j ≡ get_or literals k (pos 0))
+cause_zero clauses literals levels k zero cause e = cause
+cause_zero clauses literals levels k (suc r) cause e = absurd (let f : suc r ≡ zero = e in cc)
+
+-- what wasn't decided has a clause
+pub cause_some : (clauses : List (List ℤ)) (literals : List ℤ) (levels : List (ℕ × ℤ)) (k reason : ℕ) → HasCause clauses literals levels k reason → reason ≢ 0 → (reason - 1 < length clauses) × (IsReason literals k (get_or clauses (reason - 1) []))
+cause_some clauses literals levels k zero cause ne = absurd (ne refl)
+cause_some clauses literals levels k (suc r) cause ne =
+    let e : suc r - 1 ≡ r = omega arith in
+    rw e cause
+
+module _ (b : Board) (is : IsBoard b) (low start : ℕ) (present : IsPresent b low start) where
+  pub start_within : start ≤ length b.past.literals
+  start_within =
+      let (n, e, f) = present.last in
+      omega (arith, f, is.levels.within n (omega (arith, e)))
+
+  pub low_within : low ≤ start
+  low_within =
+      let (n, e, f) = present.last in
+      omega (arith, present.low_is, f, is.levels.rising 0 n (omega arith) (omega (arith, e)))
+
+  -- below the present level propagation is complete
+  pub closed_below : IsClosed b.clauses (take start b.past.literals)
+  closed_below =
+      let (n, e, f) = present.last in
+      subst (λ s. IsClosed b.clauses (take s b.past.literals)) (sym f) (is.before present.ready n (omega (arith, e)))
+
+  -- a conflict needs a literal
+  pub some_literal : (clause : List ℤ) → Contains b.clauses clause → AreFalse b.past.literals clause → 0 < length b.past.literals
+  some_literal clause c false_ones = elim (cases_lt 0 (length b.past.literals)) [
+      | inl h ↦ h
+      | inr h ↦ absurd (closed_below.live clause c (λ m k. let there = false_ones m k in absurd (omega (arith, there.1, h))))
+    ]
+
+  -- a decided literal of the present level is its first
+  pub decided_first : (k : ℕ) → start ≤ k → (j : ℕ) → j < length b.levels → start_of b.levels j ≡ k → k ≡ start
+  decided_first k low_k j h e =
+      let (n, g, f) = present.last in
+      omega (arith, low_k, e, f, is.levels.rising j n (omega (arith, h, g)) (omega (arith, g)))
+
+  -- the clause whose literals are all false is refuted by what is open
+  pub begin_refutes : (clause : List ℤ) (but : ℤ) (marks : List Bool) (aside : List ℤ) → Contains b.clauses clause → AreFalse b.past.literals clause → Contains b.past.literals but → ((m : ℤ) → Contains clause m → m ≢ but → IsOpen b.past.literals low start (length b.past.literals) marks aside m) → Refutes b.clauses (IsOpen b.past.literals low start (length b.past.literals) marks aside)
+  begin_refutes clause but marks aside c false_ones true_one others = Refutes-more b.clauses (Contains clause) (IsOpen b.past.literals low start (length b.past.literals) marks aside) (λ m h. others m h (λ e. is.consistent m (subst (Contains b.past.literals) (sym e) true_one) (false_ones m h))) (Refutes-clause b.clauses clause c)
+
+  -- the trace goes on
+  pub traced_to : (k end : ℕ) (marks : List Bool) (aside : List ℤ) → start ≤ k → k < end → end ≤ length b.past.literals → IsAside b.past.literals low start marks aside → AreUnmarked b.past.literals marks (k + 1) end → Refutes b.clauses (IsOpen b.past.literals low start end marks aside) → IsTraced b.clauses b.past.literals low start k marks aside
+  traced_to k end marks aside first last within put none refutes = record {
+      first = first;
+      within = omega (arith, last, within);
+      put = put;
+      refutes = Refutes-more b.clauses (IsOpen b.past.literals low start end marks aside) (IsOpen b.past.literals low start (k + 1) marks aside) (open_end b.past.literals low start (k + 1) end marks aside none (omega (arith, first))) refutes
+    }
+
+  -- something is open
+  pub some_open : (end : ℕ) (marks : List Bool) (aside : List ℤ) → IsAside b.past.literals low start marks aside → Refutes b.clauses (IsOpen b.past.literals low start end marks aside) → ¬ AreUnmarked b.past.literals marks start end
+  some_open end marks aside put refutes none = not_exhausted b.clauses b.past.literals low start end marks aside low_within start_within closed_below put none refutes

@@ -1,3 +1,4 @@
 pub mod Measure
 pub mod Analyses
 pub mod Stamps
+pub mod Targets

@@ -1,3 +1,6 @@
 pub mod Numbers
 pub mod Analysis
 pub mod Choice
+pub mod Level
+pub mod Target
+pub mod Learning

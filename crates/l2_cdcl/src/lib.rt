@@ -4,3 +4,4 @@
 mod analysis;
 mod marks;
 mod order;
+mod target;

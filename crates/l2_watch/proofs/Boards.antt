@@ -210,7 +210,7 @@ start_here levels x j e = ap (λ p. p.0) (get_or_push levels x (0, pos 0) j (sym
 decision_here : (levels : List (ℕ × ℤ)) (x : ℕ × ℤ) (j : ℕ) → j ≡ length levels → decision_of (levels ++ x ∷ []) j ≡ x.1
 decision_here levels x j e = ap (λ p. p.1) (get_or_push levels x (0, pos 0) j (sym e))
 
-start_part : (levels : List (ℕ × ℤ)) (level j : ℕ) → j < level → start_of (take level levels) j ≡ start_of levels j
+pub start_part : (levels : List (ℕ × ℤ)) (level j : ℕ) → j < level → start_of (take level levels) j ≡ start_of levels j
 start_part levels level j h = ap (λ p. p.0) (get_or-take level levels j (0, pos 0) h)
 
 decision_part : (levels : List (ℕ × ℤ)) (level j : ℕ) → j < level → decision_of (take level levels) j ≡ decision_of levels j
