@@ -2,3 +2,6 @@ pub mod Measure
 pub mod Analyses
 pub mod Stamps
 pub mod Targets
+pub mod Learnings
+pub mod Engines
+pub mod Reached

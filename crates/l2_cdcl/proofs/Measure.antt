@@ -25,7 +25,7 @@ absorbed_if_same list clause old h there back l k = inl (unit old h (there l k) 
 pub has-from : (clause : List ℤ) (l : ℤ) → Contains clause l → has (code_of l) clause ≡ true
 has-from clause l (k, b, e) = list_any-from_Contains nat_eq_equiv (code_of l) (map code_of clause) (k, omega (arith, b, length-map clause code_of), get_or-map code_of clause k l (code_of l) b ∙ ap code_of e)
 
-eqb_same : (x y : ℕ) → eqb x y ≡ true → x ≡ y
+pub eqb_same : (x y : ℕ) → eqb x y ≡ true → x ≡ y
 eqb_same x y e = grind (arith, nat_tests)
 
 pub from_has : (clause : List ℤ) (l : ℤ) → has (code_of l) clause ≡ true → Contains clause l

@@ -4,3 +4,4 @@ pub mod Choice
 pub mod Level
 pub mod Target
 pub mod Learning
+pub mod Search

@@ -2,6 +2,7 @@
 #![tactic(auto)]
 
 mod analysis;
+mod engine;
 mod marks;
 mod order;
 mod target;

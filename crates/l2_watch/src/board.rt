@@ -45,6 +45,7 @@ impl Watch {
     pub fn new(alloc: Global) -> Result<Watch, AllocError>
         ensures clauses { IfOk result (λ w. w.clauses ≡ []) }
         ensures levels { IfOk result (λ w. w.levels ≡ []) }
+        ensures ready { IfOk result (λ w. w.ready ≡ false) }
     {
         let mut lists = Vec::new(alloc);
         widen(alloc, &mut lists, 4)?;
@@ -90,6 +91,7 @@ impl Watch {
         ensures over { OnOk result (var ≤ self.new.variables) }
         ensures more { self.old.variables ≤ self.new.variables }
         ensures same { var ≤ self.old.variables → self.new ≡ self.old }
+        ensures kept { self.new.ready ≡ true → self.new ≡ self.old }
         ensures levels { self.old.levels ≡ [] → self.new.levels ≡ [] }
         ensures ready { self.old.ready ≡ false → self.new.ready ≡ false }
     {

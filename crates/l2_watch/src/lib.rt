@@ -8,4 +8,5 @@ mod looks;
 mod raise;
 mod visit;
 
+pub use attach::greatest;
 pub use board::Watch;
