@@ -1,6 +1,6 @@
 -- What the decisions of a board lead to.
 use Rattle.std.proofs.Common.{◌≡◌, ◌≢◌, ◌⊎◌, inl, inr, ℕ, suc, zero, ◌+◌, ◌-◌, ◌<◌, ◌≤◌, List, ◌++◌, [], ◌∷◌, length, get_or, map, take, refl, sym, ap, ◌∙◌, subst, arith, Bool, true, false}
-use Rattle.std.specs.Prelude.{ℤ, pos, neg_ℤ, nat_abs, Contains}
+use Rattle.std.specs.Prelude.{Option, None, Some, is_some, ℤ, pos, neg_ℤ, nat_abs, Contains}
 use Rattle.std.proofs.lemmas.Bool.{cases_lt, cases_eq}
 use Rattle.std.proofs.lemmas.List.{get_or_default, get_or-take, length-take-le}
 use lib.IntN.{neg_ℤ-neg_ℤ}
@@ -13,7 +13,9 @@ use Rattle.l2_watch.specs.Visit.{AreFalse}
 use Rattle.l2_watch.specs.Board.{Board, IsBoard, start_of, decision_of, HasCause}
 use Rattle.l2_watch.proofs.Outcomes.{not_settled}
 use Rattle.l2_watch.proofs.Boards.{part_consistent}
-use Rattle.l2_cdcl.specs.Search.{Search, AreAssumed, IsReady, IsWhole}
+use Rattle.l2_cdcl.specs.Search.{Search, AreAssumed, IsReady, IsWhole, IsTurn}
+use Rattle.l2_cdcl.specs.declared.engine.Turn.{Turn}
+use Rattle.l2_cdcl.specs.declared.engine.Turn.TheVariants.{Learnt, Decided, Whole, Refuted}
 use Rattle.l2_cdcl.specs.Choice.{HasFree}
 use Rattle.l2_cdcl.specs.Analysis.{IsFalseBefore}
 
@@ -110,3 +112,29 @@ whole_met b assumptions is are most l (j, h, e) =
 
 pub unsettled_whole : (b : Board) (assumptions : List ℤ) → IsBoard b → IsWhole assumptions b → ¬ Settles b.clauses assumptions
 unsettled_whole b assumptions is whole = not_settled b.clauses b.past.literals assumptions whole.closed is.consistent whole.met
+
+-- no conflict, or some
+pub none_is : (o : Option ℕ) → is_some o ≡ false → o ≡ None
+none_is None e = refl
+none_is (Some r) e = absurd (let t : true ≡ false = e in cc)
+
+pub some_is : (o : Option ℕ) → is_some o ≡ true → (r : ℕ) × (o ≡ Some r)
+some_is None e = absurd (let t : false ≡ true = e in cc)
+some_is (Some r) e = (r, refl)
+
+-- a turn seen from before propagation
+pub turn_before : (assumptions : List ℤ) (old mid new : Search) (t : Turn) → mid.learnt ≡ old.learnt → mid.board.clauses ≡ old.board.clauses → mid.board.variables ≡ old.board.variables → mid.board.levels ≡ old.board.levels → length old.board.past.literals ≤ length mid.board.past.literals → IsTurn assumptions mid new t → IsTurn assumptions old new t
+turn_before assumptions old mid new Learnt e f g h k (clause, grew, follows, new_one, over, unsettled) =
+    (clause, grew ∙ ap (λ x. x ++ clause ∷ []) e, subst (λ x. Follows x clause) f follows, subst (λ x. ¬ IsAbsorbed x clause) f new_one, subst (λ n. AreOver n clause) g over, subst (λ x. ¬ Settles x assumptions) f unsettled)
+turn_before assumptions old mid new Decided e f g h k (same, forward) = (same ∙ e, elim forward [
+    | inl more ↦ inl (omega (arith, k, more))
+    | inr (long, low, opened) ↦ inr (omega (arith, k, long), omega (arith, low, ap length h), omega (arith, opened, ap length h))
+  ])
+turn_before assumptions old mid new Whole e f g h k (same, whole) = (same ∙ e, whole)
+turn_before assumptions old mid new (Refuted n) e f g h k (same, most, settled) = (same ∙ e, most, settled)
+
+-- the assumptions that opened levels, after the way back
+pub assumed_back : (assumptions : List ℤ) (levels : List (ℕ × ℤ)) (level : ℕ) → level ≤ length levels → AreAssumed assumptions levels → AreAssumed assumptions (take level levels)
+assumed_back assumptions levels level h are j b c =
+    let n : length (take level levels) ≡ level = length-take-le level levels h in
+    ap (λ p. p.1) (get_or-take level levels j (0, pos 0) (omega (arith, b, n))) ∙ are j (omega (arith, b, n, h)) c

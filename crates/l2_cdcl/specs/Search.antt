@@ -9,11 +9,12 @@ use Rattle.l2_cdcl.specs.Choice.{HasFree}
 use Rattle.l2_cdcl.specs.declared.engine.Turn.{Turn}
 use Rattle.l2_cdcl.specs.declared.engine.Turn.TheVariants.{Learnt, Decided, Whole, Refuted}
 
--- the clauses added, those learnt in order, and the board with both
+-- the clauses added, those learnt in order, the board with both, and for how many variables, 0 among them, there are marks
 pub record Search : Type 0 where
   pub added : List (List ℤ)
   pub learnt : List (List ℤ)
   pub board : Board
+  pub marked : ℕ
 
 -- what a search keeps
 pub record IsEngine (at : List ℕ) (board : Board) (marks : List Bool) (refuted : Bool) : Type 0 where

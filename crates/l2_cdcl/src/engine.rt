@@ -42,10 +42,11 @@ pub struct Engine {
 impl Model for Engine {
     ghost use Rattle.l2_cdcl.specs.Learning.{learnt_of, added_of};
     ghost use Rattle.l2_cdcl.specs.Search.{Search, IsEngine};
+    ghost use Rattle.std.specs.Prelude.{length};
 
     ghost Value = { Search };
 
-    ghost view = { λ a. record { added = added_of a.learnt_at.items a.watch.clauses; learnt = learnt_of a.learnt_at.items a.watch.clauses; board = a.watch } };
+    ghost view = { λ a. record { added = added_of a.learnt_at.items a.watch.clauses; learnt = learnt_of a.learnt_at.items a.watch.clauses; board = a.watch; marked = length a.marks } };
 
     ghost invariant = { λ a. IsEngine a.learnt_at.items a.watch a.marks a.refuted };
 }
@@ -111,13 +112,9 @@ impl Engine {
         ensures cases { IfOk result (λ refuted. (refuted ≡ false → IsReady assumptions.now self.new) × (refuted ≡ true → Follows self.new.board.clauses [])) }
     {
         self.cover(assumptions)?;
-        match self.watch.start()? {
-            Some(_) => {
-                self.watch.facts();
-                Ok(true)
-            }
-            None => Ok(false),
-        }
+        let conflict = self.watch.start()?;
+        self.watch.facts();
+        Ok(conflict.is_some())
     }
 
     // Makes room for the variables of the clauses and the assumptions.
@@ -126,6 +123,7 @@ impl Engine {
         ensures added { self.new.added ≡ self.old.added }
         ensures learnt { self.new.learnt ≡ self.old.learnt }
         ensures over { OnOk result (AreOver self.new.board.variables assumptions.now) }
+        ensures room { OnOk result (self.new.board.variables < self.new.marked) }
     {
         self.watch.cover(greatest(assumptions))?;
         self.watch.facts();
@@ -149,8 +147,8 @@ impl Engine {
         ensures turn { IfOk result (λ t. IsTurn assumptions.now self.old self.new t) }
     {
         match self.watch.propagate()? {
-            Some(conflict) => self.meet_conflict(assumptions, conflict),
-            None => self.extend(assumptions),
+            Some(conflict) => Ok(self.meet_conflict(assumptions, conflict)?),
+            None => Ok(self.extend(assumptions)?),
         }
     }
 
