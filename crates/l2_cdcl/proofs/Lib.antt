@@ -5,3 +5,4 @@ pub mod Targets
 pub mod Learnings
 pub mod Engines
 pub mod Reached
+pub mod Searches

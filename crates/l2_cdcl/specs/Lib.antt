@@ -5,3 +5,4 @@ pub mod Level
 pub mod Target
 pub mod Learning
 pub mod Search
+pub mod Searched

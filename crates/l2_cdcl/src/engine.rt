@@ -5,6 +5,7 @@ ghost use Rattle.l2_watch.specs.Visit.{AreFalse};
 ghost use Rattle.l2_watch.specs.Board.{IsLearnt, start_of};
 ghost use Rattle.l2_cdcl.specs.Learning.{MayBeLearnt};
 ghost use Rattle.l2_cdcl.specs.Search.{Search, AreAssumed, IsTurn, IsReady};
+ghost use Rattle.l2_cdcl.specs.Searched.{IsSearch, IsSearched, IsVerdict};
 
 use crate::analysis::{Aside, Bounds, analyse};
 use crate::marks::Marks;
@@ -74,6 +75,14 @@ impl Engine {
     {
         self.watch.add(clause)?;
         Ok(())
+    }
+
+    /// What holds of every search. It does nothing.
+    pub fn facts(&self)
+        ensures { IsSearch self.now }
+    {
+        let _ = &self.refuted;
+        self.watch.facts();
     }
 
     /// Whether the empty clause was learnt.
@@ -243,5 +252,38 @@ fn release(watch: &Watch, order: &mut Order, level: usize)
 {
     for i in watch.start_of(level)..watch.len() {
         order.release(watch.literal(i));
+    }
+}
+
+/// What a search found.
+#[derive(Clone, Copy)]
+pub enum Verdict {
+    /// Every variable has a value.
+    Whole,
+    /// So many of the assumptions can't be met together.
+    Refuted(usize),
+}
+
+impl Engine {
+    /// Takes turns until every variable has a value, or some of the assumptions can't be met. It ends, since no clause is
+    /// learnt twice.
+    pub fn search(&mut self, assumptions: &[Lit]) -> Result<Verdict, AllocError>
+        requires { IsReady assumptions.now self.old }
+        ensures added { self.new.added ≡ self.old.added }
+        ensures found { IsSearched assumptions.now self.old self.new }
+        ensures verdict { IfOk result (λ v. IsVerdict assumptions.now self.new v) }
+        ensures whole { result ≡ Ok Verdict.Whole → ¬ Settles (self.old.added ++ self.old.learnt) assumptions.now }
+    {
+        'turns: loop {
+            self.facts();
+            match self.turn(assumptions)? {
+                Turn::Learnt | Turn::Decided => self.facts(),
+                Turn::Whole => {
+                    self.facts();
+                    return Ok(Verdict::Whole);
+                }
+                Turn::Refuted(n) => return Ok(Verdict::Refuted(n)),
+            }
+        }
     }
 }
