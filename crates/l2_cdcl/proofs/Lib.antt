@@ -6,3 +6,4 @@ pub mod Learnings
 pub mod Engines
 pub mod Reached
 pub mod Searches
+pub mod Models

@@ -8,6 +8,7 @@ use Rattle.std.proofs.lemmas.List.Elements.{Contains-append_left, Contains-appen
 use Rattle.l2_cnf.specs.Trail.{AreOver}
 use Rattle.l2_cnf.specs.Logic.{Satisfies, Follows, IsAbsorbed, Settles, Propagates, assumed, Conflicts, NegationBut, Negation}
 use Rattle.l2_cnf.proofs.Laws.{more, more_conflicts}
+use Rattle.l2_cnf.proofs.Growth.{IsAbsorbed-empty}
 use Rattle.l2_watch.specs.Board.{Board, IsBoard}
 use Rattle.l2_cdcl.specs.Learning.{MayBeLearnt, AreLearnt}
 use Rattle.l2_cdcl.specs.Numbers.{number_of}
@@ -32,9 +33,9 @@ settles_same list list' literals inside (inl both) = inl both
 settles_same list list' literals inside (inr conflict) = inr (more_conflicts list list' (Contains literals) (Contains literals) inside (λ m k. assumed k) conflict)
 
 -- one more clause is learnt
-pub AreLearnt-push : (list clauses : List (List ℤ)) (clause : List ℤ) → AreLearnt list clauses → MayBeLearnt (list ++ clauses) clause → AreLearnt list (clauses ++ clause ∷ [])
-AreLearnt-push list [] clause all last = (subst (λ x. MayBeLearnt x clause) (append-nil list) last, tt)
-AreLearnt-push list (c ∷ clauses) clause all last = (all.0, AreLearnt-push (list ++ c ∷ []) clauses clause all.1 (subst (λ x. MayBeLearnt x clause) (sym (append_assoc list (c ∷ []) clauses)) last))
+pub AreLearnt-push : (added before clauses : List (List ℤ)) (clause : List ℤ) → AreLearnt added before clauses → MayBeLearnt added (before ++ clauses) clause → AreLearnt added before (clauses ++ clause ∷ [])
+AreLearnt-push added before [] clause all last = (subst (λ x. MayBeLearnt added x clause) (append-nil before) last, tt)
+AreLearnt-push added before (c ∷ clauses) clause all last = (all.0, AreLearnt-push added (before ++ c ∷ []) clauses clause all.1 (subst (λ x. MayBeLearnt added x clause) (sym (append_assoc before (c ∷ []) clauses)) last))
 
 -- nothing was learnt yet
 pub searched_none : (assumptions : List ℤ) (s : Search) → IsSearched assumptions s s
@@ -44,6 +45,7 @@ searched_none assumptions s = record {
     learnt = sym (append-nil s.learnt);
     all = tt;
     settled = λ h. refl;
+    some = λ c h. absurd (omega (arith, h.1));
     distinct = tt;
     over = λ c h. absurd (omega (arith, h.1))
   }
@@ -55,6 +57,7 @@ searched_same assumptions old mid new is e = record {
     learnt = e ∙ is.learnt;
     all = is.all;
     settled = is.settled;
+    some = is.some;
     distinct = is.distinct;
     over = is.over
   }
@@ -87,10 +90,14 @@ module _ (assumptions : List ℤ) (old mid new : Search) (is : IsSearched assump
   searched_more clause vars e follows fresh over unsettled = record {
       more = is.more ++ clause ∷ [];
       learnt = e ∙ ap (λ x. x ++ clause ∷ []) is.learnt ∙ append_assoc old.learnt is.more (clause ∷ []);
-      all = AreLearnt-push (old.added ++ old.learnt) is.more clause is.all (record {
-        follows = follows_same mid.board.clauses list clause from_board follows;
-        new = inr (λ absorbed. fresh (absorbed_same list mid.board.clauses clause to_board absorbed))
+      all = AreLearnt-push old.added old.learnt is.more clause is.all (record {
+        follows = follows_same mid.board.clauses (old.added ++ (old.learnt ++ is.more)) clause (λ c h. subst (λ x. Contains x c) (append_assoc old.added old.learnt is.more) (from_board c h)) follows;
+        new = inr (λ absorbed. fresh (absorbed_same (old.added ++ (old.learnt ++ is.more)) mid.board.clauses clause (λ c h. to_board c (subst (λ x. Contains x c) (sym (append_assoc old.added old.learnt is.more)) h)) absorbed))
       });
+      some = λ c h. elim (Contains-push_cases is.more clause c h) [
+        | inl before_it ↦ is.some c before_it
+        | inr s ↦ λ e. fresh (subst (IsAbsorbed mid.board.clauses) (sym (s ∙ e)) (IsAbsorbed-empty mid.board.clauses))
+      ];
       settled = λ h. absurd (unsettled_before unsettled h);
       distinct = distinct_more mid.board.clauses old.board.variables is.more clause is.distinct fresh (λ c h. to_board c (Contains-append_right (old.added ++ old.learnt) is.more c h)) (subst (λ n. AreOver n clause) (sym vars) over) is.over;
       over = λ c h. elim (Contains-push_cases is.more clause c h) [

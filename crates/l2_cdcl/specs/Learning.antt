@@ -1,7 +1,7 @@
--- The clauses added and those learnt, and what is learnt over a list.
-use Rattle.std.specs.Prelude.{◌≡◌, ◌⊎◌, ℕ, suc, Bool, cond, eqb, ℤ, List, [], ◌∷◌, ◌++◌, map, slice_index_or}
+-- The clauses added and those learnt, and what may be learnt.
+use Rattle.std.specs.Prelude.{◌≡◌, ◌⊎◌, ℕ, suc, Bool, cond, eqb, ℤ, List, [], ◌∷◌, ◌++◌, map, slice_index_or, Contains}
 use Rattle.std.specs.List.{list_any}
-use Rattle.l2_cnf.specs.Logic.{Follows, IsAbsorbed}
+use Rattle.l2_cnf.specs.Logic.{Follows, IsAbsorbed, Settles}
 
 -- the clauses of some indices
 abbrev pub learnt_of : List ℕ → List (List ℤ) → List (List ℤ)
@@ -16,12 +16,21 @@ others_from i at (clause ∷ clauses) = cond (list_any (eqb i) at) (others_from 
 abbrev pub added_of : List ℕ → List (List ℤ) → List (List ℤ)
 added_of at clauses = others_from 0 at clauses
 
--- a clause may be learnt over a list: it follows by reverse unit propagation, and it isn't absorbed unless it is empty
-pub record MayBeLearnt (list : List (List ℤ)) (clause : List ℤ) : Type 0 where
-  pub follows : Follows list clause
-  pub new : (clause ≡ []) ⊎ ¬ IsAbsorbed list clause
+-- A clause may be learnt beside those added and those learnt before: it follows from them by reverse unit propagation, and it
+-- isn't absorbed by them, or it is the first empty one that is learnt.
+pub record MayBeLearnt (added before : List (List ℤ)) (clause : List ℤ) : Type 0 where
+  pub follows : Follows (added ++ before) clause
+  pub new : ((clause ≡ []) × (¬ Contains before [])) ⊎ (¬ IsAbsorbed (added ++ before) clause)
 
--- each of these clauses may be learnt over the list and those before it
-abbrev pub AreLearnt : List (List ℤ) → List (List ℤ) → Type 0
-AreLearnt list [] = Unit {0}
-AreLearnt list (clause ∷ clauses) = (MayBeLearnt list clause) × (AreLearnt (list ++ clause ∷ []) clauses)
+-- each of these clauses may be learnt beside those added, those learnt before, and those before it
+abbrev pub AreLearnt : List (List ℤ) → List (List ℤ) → List (List ℤ) → Type 0
+AreLearnt added before [] = Unit {0}
+AreLearnt added before (clause ∷ clauses) = (MayBeLearnt added before clause) × (AreLearnt added (before ++ clause ∷ []) clauses)
+
+-- What was learnt while some assumptions were asked: clauses that may be learnt, and none but at most an empty one where the
+-- assumptions were settled before.
+pub record IsLearning (assumptions : List ℤ) (added old new : List (List ℤ)) : Type 0 where
+  pub more : List (List ℤ)
+  pub learnt : new ≡ old ++ more
+  pub all : AreLearnt added old more
+  pub settled : Settles (added ++ old) assumptions → (more ≡ []) ⊎ (more ≡ [] ∷ [])

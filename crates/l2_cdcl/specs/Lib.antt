@@ -6,3 +6,5 @@ pub mod Target
 pub mod Learning
 pub mod Search
 pub mod Searched
+pub mod Answering
+pub mod Held

@@ -22,8 +22,9 @@ pub record IsSearch (s : Search) : Type 0 where
 pub record IsSearched (assumptions : List ℤ) (old new : Search) : Type 0 where
   pub more : List (List ℤ)
   pub learnt : new.learnt ≡ old.learnt ++ more
-  pub all : AreLearnt (old.added ++ old.learnt) more
+  pub all : AreLearnt old.added old.learnt more
   pub settled : Settles (old.added ++ old.learnt) assumptions → more ≡ []
+  pub some : (clause : List ℤ) → Contains more clause → clause ≢ []
   pub distinct : IsDistinct eqb (map (number_of (2 * old.board.variables + 2)) more)
   pub over : (clause : List ℤ) → Contains more clause → AreOver old.board.variables clause
 

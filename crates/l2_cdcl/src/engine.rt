@@ -1,6 +1,7 @@
 ghost use Rattle.std.specs.Prelude.{◌≡◌, ◌≢◌, ◌⊎◌, ◌≤◌, ◌<◌, ◌^◌, ◌+◌, ◌-◌, ◌++◌, ◌∷◌, [], ℕ, ℤ, pos, neg_ℤ, nat_abs, Bool, true, false, List, length, take, Contains, slice_index_or, OnOk, OnErr, IfOk, IsTrue, ◌↔◌, Ok, Some, None};
 ghost use Rattle.l2_cnf.specs.Logic.{Settles, Follows};
 ghost use Rattle.l2_cnf.specs.Trail.{AreOver};
+ghost use Rattle.l2_cnf.specs.Assignment.{MakesTrue};
 ghost use Rattle.l2_watch.specs.Visit.{AreFalse};
 ghost use Rattle.l2_watch.specs.Board.{IsLearnt, start_of};
 ghost use Rattle.l2_cdcl.specs.Learning.{MayBeLearnt};
@@ -8,10 +9,12 @@ ghost use Rattle.l2_cdcl.specs.Search.{Search, AreAssumed, IsTurn, IsReady};
 ghost use Rattle.l2_cdcl.specs.Searched.{IsSearch, IsSearched, IsVerdict};
 
 use crate::analysis::{Aside, Bounds, analyse};
+use crate::answer::Core;
 use crate::marks::Marks;
+use crate::model::assignment_of;
 use crate::order::Order;
 use crate::target::{Target, aim};
-use l2_cnf::Lit;
+use l2_cnf::{Assignment, Lit};
 use l2_watch::{Watch, greatest};
 use std::alloc::{AllocError, Global};
 use std::marker::Model;
@@ -85,6 +88,36 @@ impl Engine {
         self.watch.facts();
     }
 
+    /// The values by which the literals of the board are true.
+    pub fn assignment(&self) -> Result<Assignment, AllocError>
+        ensures { IfOk result (λ a. (l : ℤ) → Contains self.now.board.past.literals l → MakesTrue a l) }
+    {
+        assignment_of(self.alloc, &self.watch)
+    }
+
+    /// A core of these assumptions.
+    pub fn core(&self, literals: &[Lit]) -> Result<Core, AllocError>
+        ensures { IfOk result (λ c. c ≡ literals.now) }
+    {
+        Core::new(self.alloc, literals)
+    }
+
+    /// The number of clauses learnt.
+    pub fn learnt_len(&self) -> u64
+        ensures len { result ≡ length self.now.learnt }
+        ensures small { result < 2 ^ 60 }
+    {
+        self.learnt_at.as_slice().len() as u64
+    }
+
+    /// A clause that was learnt.
+    pub fn learnt(&self, i: u64) -> &[Lit]
+        requires { i < length self.now.learnt }
+        ensures { result.now ≡ slice_index_or self.now.learnt i [] }
+    {
+        self.watch.clause(self.learnt_at[i as usize])
+    }
+
     /// Whether the empty clause was learnt.
     pub fn is_refuted(&self) -> bool
         ensures { IsTrue result ↔ Contains self.now.learnt [] }
@@ -94,8 +127,8 @@ impl Engine {
 }
 
 impl Engine {
-    // Learns the empty clause.
-    fn refute(&mut self) -> Result<(), AllocError>
+    /// Learns the empty clause.
+    pub fn refute(&mut self) -> Result<(), AllocError>
         requires { Follows self.old.board.clauses [] }
         ensures ok { OnOk result (self.new.learnt ≡ self.old.learnt ++ [] ∷ []) }
         ensures err { OnErr result (self.new.learnt ≡ self.old.learnt) }

@@ -2,7 +2,14 @@
 #![tactic(auto)]
 
 mod analysis;
+mod answer;
 mod engine;
 mod marks;
+mod model;
 mod order;
+mod solve;
+mod solver;
 mod target;
+
+pub use answer::{Answer, Core};
+pub use solver::Solver;
