@@ -1,11 +1,11 @@
 -- A step that is accepted follows by reverse unit propagation, and so it is implied; so is every clause of a derivation.
-use Rattle.std.proofs.Common.{◌≡◌, inl, inr, ℕ, suc, zero, ◌-◌, ◌<◌, Bool, List, ◌++◌, [], ◌∷◌, length, get_or, map, refl, sym, ap, ◌∙◌, subst, arith}
-use Rattle.std.specs.Prelude.{ℤ, neg_ℤ, Contains}
+use Rattle.std.proofs.Common.{◌≡◌, inl, inr, ℕ, suc, zero, ◌-◌, ◌<◌, ◌≤◌, Bool, List, ◌++◌, [], ◌∷◌, length, get_or, map, refl, sym, ap, ◌∙◌, subst, arith}
+use Rattle.std.specs.Prelude.{ℤ, neg_ℤ, Contains, ◌↔◌}
 use Rattle.std.proofs.lemmas.List.{get_or_default, get_or-map, length-map, append_assoc, append-nil}
 use Rattle.std.proofs.lemmas.List.Elements.{Contains-push_cases, Contains-append_cases}
 use lib.IntN.{neg_ℤ-neg_ℤ}
 use Rattle.l2_cnf.specs.Logic.{Propagates, assumed, unit, Conflicts, Negation, Follows, Satisfies, HasTrue}
-use Rattle.l2_cnf.specs.Steps.{Step, HasNumber, clause_of, Leads, IsStep, IsDerivation, clauses_of}
+use Rattle.l2_cnf.specs.Steps.{Step, IsUnit, HasNumber, clause_of, Leads, IsStep, IsDerivation, clauses_of}
 use Rattle.l2_cnf.proofs.Laws.{Follows-implied}
 
 pub Contains-map : (clause : List ℤ) (m : ℤ) → Contains clause m → Contains (map neg_ℤ clause) (neg_ℤ m)
@@ -22,6 +22,11 @@ pub numbered : (clauses : List (List ℤ)) (hint : ℕ) → HasNumber clauses hi
 numbered clauses hint h =
     let within : hint - 1 < length clauses = omega (arith, h.0, h.1) in
     (hint - 1, within, get_or_default clauses (hint - 1) _ _ within)
+
+-- at a hint with others after it
+pub Leads-more : (clauses : List (List ℤ)) (t : List ℤ) (hint : ℕ) (hints : List ℕ) → 1 ≤ length hints → Leads clauses t (hint ∷ hints) ↔ ((HasNumber clauses hint) × ((l : ℤ) × (IsUnit t (clause_of clauses hint) l) × (Leads clauses (t ++ l ∷ []) hints)))
+Leads-more clauses t hint [] h = absurd (omega (arith, h))
+Leads-more clauses t hint (next ∷ hints) h = (λ x. x, λ x. x)
 
 -- hints that lead to a false clause show a conflict
 pub Leads-conflicts : (clauses : List (List ℤ)) (given : ℤ → Type 0) (t : List ℤ) (hints : List ℕ) → ((m : ℤ) → Contains t m → Propagates clauses given m) → Leads clauses t hints → Conflicts clauses given
@@ -77,3 +82,14 @@ pub IsDerivation-push : (formula : List (List ℤ)) (n : ℕ) (steps : List Step
 IsDerivation-push formula n [] step derived accepted = (subst (λ x. IsStep x n step.number step.clause step.hints) (append-nil formula) accepted, tt)
 IsDerivation-push formula n (first ∷ steps) step derived accepted =
     (derived.0, IsDerivation-push (formula ++ first.clause ∷ []) n steps step derived.1 (subst (λ x. IsStep x n step.number step.clause step.hints) (sym (append_assoc formula (first.clause ∷ []) (clauses_of steps))) accepted))
+
+-- the steps before the last ones
+pub IsDerivation-front : (formula : List (List ℤ)) (n : ℕ) (front back : List Step) → IsDerivation formula n (front ++ back) → IsDerivation formula n front
+IsDerivation-front formula n [] back derived = tt
+IsDerivation-front formula n (first ∷ front) back derived = (derived.0, IsDerivation-front (formula ++ first.clause ∷ []) n front back derived.1)
+
+-- a step in the middle
+pub IsDerivation-step : (formula : List (List ℤ)) (n : ℕ) (front : List Step) (step : Step) (back : List Step) → IsDerivation formula n (front ++ step ∷ back) → IsStep (formula ++ clauses_of front) n step.number step.clause step.hints
+IsDerivation-step formula n [] step back derived = subst (λ x. IsStep x n step.number step.clause step.hints) (sym (append-nil formula)) derived.0
+IsDerivation-step formula n (first ∷ front) step back derived =
+    subst (λ x. IsStep x n step.number step.clause step.hints) (append_assoc formula (first.clause ∷ []) (clauses_of front)) (IsDerivation-step (formula ++ first.clause ∷ []) n front step back derived.1)

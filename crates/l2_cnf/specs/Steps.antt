@@ -35,7 +35,9 @@ clause_of clauses number = slice_index_or clauses (number - 1) []
 abbrev pub Leads : List (List ℤ) → List ℤ → List ℕ → Type 0
 Leads clauses true_ones [] = ⊥
 Leads clauses true_ones (hint ∷ []) = (HasNumber clauses hint) × (IsAllFalse true_ones (clause_of clauses hint))
-Leads clauses true_ones (hint ∷ next ∷ hints) = (HasNumber clauses hint) × ((l : ℤ) × (IsUnit true_ones (clause_of clauses hint) l) × (Leads clauses (true_ones ++ l ∷ []) (next ∷ hints)))
+Leads clauses true_ones (hint ∷ next ∷ hints) =
+    (HasNumber clauses hint)
+    × ((l : ℤ) × (IsUnit true_ones (clause_of clauses hint) l) × (Leads clauses (true_ones ++ l ∷ []) (next ∷ hints)))
 
 -- A step is accepted over these clauses: it has the next number, its literals have distinct variables from 1 to
 -- the last, and from the negation of its clause the hints lead to a clause whose literals are all false.
@@ -48,7 +50,9 @@ pub record IsStep (clauses : List (List ℤ)) (variables number : ℕ) (clause :
 -- each step is accepted over the formula and the steps before it
 abbrev pub IsDerivation : List (List ℤ) → ℕ → List Step → Type 0
 IsDerivation formula variables [] = Unit {0}
-IsDerivation formula variables (step ∷ steps) = (IsStep formula variables step.number step.clause step.hints) × (IsDerivation (formula ++ step.clause ∷ []) variables steps)
+IsDerivation formula variables (step ∷ steps) =
+    (IsStep formula variables step.number step.clause step.hints)
+    × (IsDerivation (formula ++ step.clause ∷ []) variables steps)
 
 -- the clauses of some steps
 abbrev pub clauses_of : List Step → List (List ℤ)

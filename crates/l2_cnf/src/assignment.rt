@@ -1,4 +1,4 @@
-ghost use Rattle.std.specs.Prelude.{◌≡◌, ◌≤◌, ◌-◌, ℕ, ℤ, List, length, replicate, Option, None, Some, IfOk, IsTrue, Contains, ◌↔◌, slice_set};
+ghost use Rattle.std.specs.Prelude.{◌≡◌, ◌≤◌, ◌-◌, ℤ, length, replicate, None, Some, IfOk, IsTrue, Contains, ◌↔◌, slice_set};
 ghost use Rattle.std.specs.Bool.{OnTrue};
 ghost use Rattle.l2_cnf.specs.Assignment.{value_of, MakesTrue, IsSatisfied, completed};
 ghost use Rattle.l2_cnf.specs.Logic.{Satisfies};
@@ -30,6 +30,7 @@ impl Assignment {
         Ok(Assignment { values })
     }
 
+    /// Gives a variable a value.
     pub fn set(&mut self, var: u64, value: bool)
         requires low { 1 ≤ var }
         requires high { var ≤ length self.old }

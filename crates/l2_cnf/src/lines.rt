@@ -1,4 +1,4 @@
-ghost use Rattle.std.specs.Prelude.{◌≡◌, ◌<◌, ◌^◌, ◌++◌, ◌∷◌, [], ℕ, ℤ, List, length, OnOk, OnErr, slice_index_or};
+ghost use Rattle.std.specs.Prelude.{◌≡◌, ◌<◌, ◌^◌, ◌++◌, ◌∷◌, [], length, OnOk, OnErr};
 ghost use Rattle.l2_cnf.specs.Lines.{step_at, step_of};
 
 use crate::Lit;
@@ -6,7 +6,8 @@ use crate::runs::Runs;
 use std::alloc::{AllocError, Global};
 use std::marker::Model;
 
-/// Steps of a derivation, each a number, a clause and hints. All literals lie in one run, and all hints in another.
+/// Steps of a derivation, each a number, a clause and hints. All literals lie in one run, and all hints in another:
+/// 8 bytes a literal or hint, and 8 bytes a step for its number and for the end of each of its lists.
 #[derive(Drop)]
 pub struct Lines {
     numbers: Vec<u64>,
@@ -23,7 +24,8 @@ impl Model for Lines {
 
     ghost view = { λ a. steps_of a.numbers.items a.clauses a.hints };
 
-    ghost invariant = { λ a. (length a.clauses ≡ length a.numbers.items) × (length a.hints ≡ length a.numbers.items) };
+    ghost invariant = { λ a. (length a.clauses ≡ length a.numbers.items)
+        × (length a.hints ≡ length a.numbers.items) };
 }
 
 impl Lines {
@@ -85,7 +87,8 @@ fn push_both(
     number: u64,
     hints: &[u64],
 ) -> Result<(), AllocError>
-    ensures ok { OnOk result ((numbers.new.items ≡ numbers.old.items ++ number ∷ []) × (lists.new ≡ lists.old ++ hints.now ∷ [])) }
+    ensures ok { OnOk result ((numbers.new.items ≡ numbers.old.items ++ number ∷ [])
+        × (lists.new ≡ lists.old ++ hints.now ∷ [])) }
     ensures err { OnErr result ((numbers.new.items ≡ numbers.old.items) × (lists.new ≡ lists.old)) }
 {
     numbers.push(number)?;

@@ -1,25 +1,29 @@
-ghost use Rattle.std.specs.Prelude.{◌≡◌, ◌≤◌, ◌++◌, [], ℕ, ℤ, Bool, List, nat_abs, Contains};
+ghost use Rattle.std.specs.Prelude.{◌++◌, [], ℕ, ℤ, Bool, List, Contains};
 ghost use Rattle.l2_cnf.specs.Logic.{AreLiterals, HasTrue, Satisfies, Follows, IsAbsorbed, Settles};
 ghost use Rattle.l2_cnf.specs.Steps.{Step, IsDerivation, clauses_of};
 
 /// What follows by reverse unit propagation is implied.
 pub fn followed_is_implied()
-    ensures { (v : ℕ → Bool) (list : List (List ℤ)) (clause : List ℤ) → AreLiterals clause → Follows list clause → Satisfies v list → HasTrue v clause }
+    ensures { (v : ℕ → Bool) (list : List (List ℤ)) (clause : List ℤ)
+        → AreLiterals clause → Follows list clause → Satisfies v list → HasTrue v clause }
 {}
 
 /// Every clause of a derivation is implied by the formula.
 pub fn derived_is_implied()
-    ensures { (v : ℕ → Bool) (formula : List (List ℤ)) (variables : ℕ) (steps : List Step) → IsDerivation formula variables steps → Satisfies v formula → Satisfies v (clauses_of steps) }
+    ensures { (v : ℕ → Bool) (formula : List (List ℤ)) (variables : ℕ) (steps : List Step)
+        → IsDerivation formula variables steps → Satisfies v formula → Satisfies v (clauses_of steps) }
 {}
 
 /// A clause that is absorbed stays so when the list grows.
 pub fn absorbed_is_kept()
-    ensures { (list more : List (List ℤ)) (clause : List ℤ) → IsAbsorbed list clause → IsAbsorbed (list ++ more) clause }
+    ensures { (list more : List (List ℤ)) (clause : List ℤ)
+        → IsAbsorbed list clause → IsAbsorbed (list ++ more) clause }
 {}
 
 /// What a list settles stays settled when the list grows.
 pub fn settled_is_kept()
-    ensures { (list more : List (List ℤ)) (literals : List ℤ) → Settles list literals → Settles (list ++ more) literals }
+    ensures { (list more : List (List ℤ)) (literals : List ℤ)
+        → Settles list literals → Settles (list ++ more) literals }
 {}
 
 /// A clause of a list is absorbed by it.

@@ -1,8 +1,8 @@
 -- What a checker knows: clauses over its variables, and accepted clauses that the formula implies.
-use Rattle.std.proofs.Common.{◌≡◌, inl, inr, ℕ, suc, zero, ◌+◌, ◌<◌, Bool, List, ◌++◌, [], ◌∷◌, length, get_or, take, refl, sym, ap, ◌∙◌, subst, arith}
+use Rattle.std.proofs.Common.{◌≡◌, ℕ, ◌+◌, Bool, List, ◌++◌, [], ◌∷◌, length, get_or, take, refl, sym, ap, ◌∙◌, subst, arith}
 use Rattle.std.specs.Prelude.{ℤ, Contains}
-use Rattle.std.proofs.lemmas.List.{get_or_default, append_assoc, get_or_push, length_push, take_all, take_more}
-use Rattle.std.proofs.lemmas.List.Elements.{Contains-push, Contains-push_cases, Contains-append_cases}
+use Rattle.std.proofs.lemmas.List.{append_assoc, get_or_push, length_push, take_all, take_more}
+use Rattle.std.proofs.lemmas.List.Elements.{Contains-push}
 use Rattle.l2_cnf.specs.Logic.{IsWithin, AllWithin, Satisfies}
 use Rattle.l2_cnf.specs.Steps.{EndsEmpty}
 use Rattle.l2_cnf.proofs.Within.{AllWithin-none, AllWithin-push, AllWithin-append}

@@ -6,7 +6,7 @@ use Rattle.std.proofs.lemmas.List.Elements.{Contains-push_cases}
 use Rattle.l2_cnf.specs.Trail.{AreOver, AreApart}
 use Rattle.l2_cnf.proofs.Laws.{same_or_not, nat_abs-neg_ℤ, same_variable}
 use Rattle.l2_cnf.proofs.Trails.{AreApart-push}
-use Rattle.l2_cnf.proofs.Derivations.{Contains-map, Contains-unmap}
+use Rattle.l2_cnf.proofs.Derivations.{Contains-map, Contains-unmap, Leads-more}
 use Rattle.l2_cnf.specs.Steps.{IsAllFalse, IsUnset, IsUnit, HasNumber, clause_of, Leads}
 
 -- all are false, by their places
@@ -26,11 +26,6 @@ unset_is t l a b m h e = elim (same_variable m l e) [
   | inl s ↦ a (subst (λ x. Contains t x) s h)
   | inr s ↦ b (subst (λ x. Contains t x) s h)
 ]
-
--- at a hint with others after it
-pub Leads-more : (clauses : List (List ℤ)) (t : List ℤ) (hint : ℕ) (hints : List ℕ) → 1 ≤ length hints → Leads clauses t (hint ∷ hints) ↔ ((HasNumber clauses hint) × ((l : ℤ) × (IsUnit t (clause_of clauses hint) l) × (Leads clauses (t ++ l ∷ []) hints)))
-Leads-more clauses t hint [] h = absurd (omega (arith, h))
-Leads-more clauses t hint (next ∷ hints) h = (λ x. x, λ x. x)
 
 -- after the unit of a hint became true
 pub Leads-next : (clauses : List (List ℤ)) (t : List ℤ) (hint : ℕ) (hints : List ℕ) (l : ℤ) → 1 ≤ length hints → HasNumber clauses hint → IsUnit t (clause_of clauses hint) l → Leads clauses t (hint ∷ hints) ↔ Leads clauses (t ++ l ∷ []) hints

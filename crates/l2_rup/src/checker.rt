@@ -1,4 +1,4 @@
-ghost use Rattle.std.specs.Prelude.{◌≡◌, ◌≤◌, ◌<◌, ◌^◌, ◌++◌, ◌∷◌, [], ℕ, ℤ, Bool, List, length, IfOk, OnOk, OnErr, IsTrue, ◌↔◌, Contains};
+ghost use Rattle.std.specs.Prelude.{◌≡◌, ◌≤◌, ◌∷◌, [], ℕ, Bool, length, IfOk, OnOk, OnErr, IsTrue, ◌↔◌};
 ghost use Rattle.std.specs.Bool.{OnTrue};
 ghost use Rattle.l2_cnf.specs.Logic.{IsWithin, AllWithin, Satisfies, HasTrue};
 ghost use Rattle.l2_cnf.specs.Steps.{IsStep, EndsEmpty};
@@ -103,7 +103,9 @@ impl<'a> Checker<'a> {
         self.known.restart(last, lines, literals)
     }
 
-    /// Accepts a step exactly by the step rule.
+    /// Accepts a step exactly by the step rule: it has the next number, and its literals have distinct variables of the
+    /// formula. From their negations, each hint but the last names a clause that makes one more literal true, and the
+    /// last hint names a clause whose literals are all false. The cost is that of these clauses alone.
     pub fn step(&mut self, number: u64, clause: &[Lit], hints: &[u64]) -> Result<(), StepError>
         requires lines { 1 ≤ self.old.lines }
         requires literals { length clause.now ≤ self.old.literals }

@@ -1,5 +1,6 @@
-ghost use Rattle.std.specs.Prelude.{◌≡◌, ◌≢◌, ◌≤◌, ◌<◌, ◌^◌, ◌+◌, ◌-◌, ◌++◌, ◌∷◌, [], ℕ, ℤ, pos, neg_ℤ, nat_abs, List, map, length, take, IfOk, IsTrue, ◌↔◌, Contains, slice_index_or, MatchOption, MatchBool};
-ghost use Rattle.l2_cnf.specs.Trail.{Path, AreOver, AreApart};
+ghost use Rattle.std.specs.Prelude.{◌≡◌, ◌≢◌, ◌≤◌, ◌<◌, ◌+◌, ◌++◌, ◌∷◌, [], ℕ, ℤ, pos, neg_ℤ, map, length, IsTrue, ◌↔◌, Contains, slice_index_or, MatchOption, MatchBool};
+ghost use Rattle.std.specs.Bool.{OnTrue, OnFalse};
+ghost use Rattle.l2_cnf.specs.Trail.{AreOver, AreApart};
 ghost use Rattle.l2_cnf.specs.Steps.{IsAllFalse, IsUnit, Leads};
 ghost use Rattle.l2_cnf.specs.Logic.{IsWithin};
 ghost use Rattle.l2_rup.specs.Checked.{known_of};
@@ -8,7 +9,7 @@ use crate::known::Known;
 use l2_cnf::{Lit, Trail};
 
 /// Whether all literals are false.
-pub fn all_false(trail: &Trail, clause: &[Lit]) -> bool
+fn all_false(trail: &Trail, clause: &[Lit]) -> bool
     requires { IsWithin trail.now.variables clause.now }
     ensures { IsTrue result ↔ IsAllFalse trail.now.literals clause.now }
 {
@@ -24,8 +25,10 @@ pub fn all_false(trail: &Trail, clause: &[Lit]) -> bool
 fn first_live(trail: &Trail, clause: &[Lit]) -> usize
     requires { IsWithin trail.now.variables clause.now }
     ensures within { result ≤ length clause.now }
-    ensures before { (k : ℕ) → k < result → Contains trail.now.literals (neg_ℤ (slice_index_or clause.now k (pos 0))) }
-    ensures live { result < length clause.now → ¬ Contains trail.now.literals (neg_ℤ (slice_index_or clause.now result (pos 0))) }
+    ensures before { (k : ℕ) → k < result
+        → Contains trail.now.literals (neg_ℤ (slice_index_or clause.now k (pos 0))) }
+    ensures live { result < length clause.now
+        → ¬ Contains trail.now.literals (neg_ℤ (slice_index_or clause.now result (pos 0))) }
 {
     for (i, literal) in clause.iter().enumerate() {
         if !trail.is_false(*literal) {
@@ -36,12 +39,13 @@ fn first_live(trail: &Trail, clause: &[Lit]) -> usize
 }
 
 /// Whether all literals but this one are false.
-fn others_false(trail: &Trail, clause: &[Lit], l: Lit) -> bool
+fn others_false(trail: &Trail, clause: &[Lit], literal: Lit) -> bool
     requires { IsWithin trail.now.variables clause.now }
-    ensures { IsTrue result ↔ ((m : ℤ) → Contains clause.now m → m ≢ l → Contains trail.now.literals (neg_ℤ m)) }
+    ensures { IsTrue result
+        ↔ ((m : ℤ) → Contains clause.now m → m ≢ literal → Contains trail.now.literals (neg_ℤ m)) }
 {
-    for literal in clause {
-        if *literal != l && !trail.is_false(*literal) {
+    for other in clause {
+        if *other != literal && !trail.is_false(*other) {
             return false;
         }
     }
@@ -49,19 +53,38 @@ fn others_false(trail: &Trail, clause: &[Lit], l: Lit) -> bool
 }
 
 /// The literal that alone isn't false, if there is one and it is unset.
-pub fn unit_of(trail: &Trail, clause: &[Lit]) -> Option<Lit>
+fn unit_of(trail: &Trail, clause: &[Lit]) -> Option<Lit>
     requires { IsWithin trail.now.variables clause.now }
-    ensures { MatchOption result ((l : ℤ) → ¬ IsUnit trail.now.literals clause.now l) (λ l. IsUnit trail.now.literals clause.now l) }
+    ensures { MatchOption result
+        ((l : ℤ) → ¬ IsUnit trail.now.literals clause.now l)
+        (λ l. IsUnit trail.now.literals clause.now l) }
 {
     let i = first_live(trail, clause);
     if i == clause.len() {
         return None;
     }
-    let l = clause[i];
-    if !trail.is_true(l) && others_false(trail, clause, l) {
-        Some(l)
+    let literal = clause[i];
+    if !trail.is_true(literal) && others_false(trail, clause, literal) {
+        Some(literal)
     } else {
         None
+    }
+}
+
+/// Makes that literal true, if there is one.
+fn advance(trail: &mut Trail, clause: &[Lit]) -> bool
+    requires { IsWithin trail.old.variables clause.now }
+    ensures variables { trail.new.variables ≡ trail.old.variables }
+    ensures moved { OnTrue result ((l : ℤ) × (IsUnit trail.old.literals clause.now l)
+        × (trail.new.literals ≡ trail.old.literals ++ l ∷ [])) }
+    ensures stuck { OnFalse result ((l : ℤ) → ¬ IsUnit trail.old.literals clause.now l) }
+{
+    match unit_of(trail, clause) {
+        Some(literal) => {
+            trail.push(literal);
+            true
+        }
+        None => false,
     }
 }
 
@@ -70,7 +93,8 @@ pub fn negate(trail: &mut Trail, clause: &[Lit]) -> bool
     requires { trail.old.literals ≡ [] }
     ensures variables { trail.new.variables ≡ trail.old.variables }
     ensures cases { MatchBool result
-        ((trail.new.literals ≡ map neg_ℤ clause.now) × (AreOver trail.old.variables clause.now) × (AreApart clause.now))
+        ((trail.new.literals ≡ map neg_ℤ clause.now)
+        × (AreOver trail.old.variables clause.now) × (AreApart clause.now))
         (¬ ((AreOver trail.old.variables clause.now) × (AreApart clause.now))) }
 {
     for literal in clause {
@@ -98,9 +122,8 @@ pub fn follow(known: &Known<'_>, trail: &mut Trail, hints: &[u64]) -> bool
         if i + 1 == hints.len() {
             return all_false(trail, clause);
         }
-        match unit_of(trail, clause) {
-            Some(l) => trail.push(l),
-            None => return false,
+        if !advance(trail, clause) {
+            return false;
         }
     }
     false

@@ -1,4 +1,4 @@
-ghost use Rattle.std.specs.Prelude.{◌≡◌, ◌≤◌, ◌<◌, ◌^◌, ◌+◌, ◌++◌, ◌∷◌, [], ℕ, ℤ, Bool, List, length, IfOk, OnOk, OnErr, IsTrue, ◌↔◌, slice_index_or, Contains};
+ghost use Rattle.std.specs.Prelude.{◌≡◌, ◌≤◌, ◌<◌, ◌^◌, ◌∷◌, [], ℕ, Bool, length, IfOk, OnOk, OnErr, IsTrue, ◌↔◌, slice_index_or};
 ghost use Rattle.std.specs.Bool.{OnTrue};
 ghost use Rattle.l2_cnf.specs.Logic.{IsWithin, AllWithin, Satisfies, HasTrue};
 ghost use Rattle.l2_cnf.specs.Steps.{EndsEmpty};
@@ -26,7 +26,14 @@ impl<'a> Model for Known<'a> {
 
     ghost Value = { Checked };
 
-    ghost view = { λ a. record { base = a.base.now; last = a.last; steps = a.steps.clauses; variables = a.variables; lines = a.steps.lines; literals = a.steps.literals } };
+    ghost view = { λ a. record {
+      base = a.base.now;
+      last = a.last;
+      steps = a.steps.clauses;
+      variables = a.variables;
+      lines = a.steps.lines;
+      literals = a.steps.literals;
+    } };
 
     ghost invariant = { λ a. (AllWithin a.variables (a.base.now ++ a.last ++ a.steps.clauses))
         × ((v : ℕ → Bool) → Satisfies v (a.base.now ++ a.last) → Satisfies v a.steps.clauses) };

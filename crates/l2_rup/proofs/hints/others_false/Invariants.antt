@@ -2,5 +2,5 @@ use Rattle.std.proofs.Common.{◌≢◌, ℕ, ◌<◌, get_or}
 use Rattle.std.specs.Prelude.{pos, neg_ℤ, Contains}
 use Rattle.l2_rup.proofs.hints.others_false.Given as goal
 
-abbrev pub invariant-loop-literal : goal.invariant-loop-literal
-invariant-loop-literal l = (k : ℕ) → k < l.literal-index → get_or l.clause k (pos 0) ≢ l.l → Contains l.trail.literals (neg_ℤ (get_or l.clause k (pos 0)))
+abbrev pub invariant-loop-other : goal.invariant-loop-other
+invariant-loop-other l = (k : ℕ) → k < l.other-index → get_or l.clause k (pos 0) ≢ l.literal → Contains l.trail.literals (neg_ℤ (get_or l.clause k (pos 0)))

@@ -9,4 +9,4 @@ loop-clause-preserved g c =
     let yes_within : c.is_within-within.result ≡ true = search rules in
     let within : IsWithin 2 c.deref.result.now = OnTrue_at yes_within c.is_within-within.ensures in
     subst (AllWithin 2) (sym c.in_ok-push.ensures.ok) (AllWithin-push 2 c.loop-clause.base c.deref-in-loop-clause.result.now c.loop-clause.invariant
-      (subst (IsWithin 2) (c.deref.ensures.value ∙ sym c.deref-in-loop-clause.ensures.value) within))
+    (subst (IsWithin 2) (c.deref.ensures.value ∙ sym c.deref-in-loop-clause.ensures.value) within))

@@ -5,5 +5,5 @@ abbrev pub invariant-loop-hints : goal.invariant-loop-hints
 invariant-loop-hints g l = record {
   lines : 1 ≤ l.checker.lines;
   literals : 1 ≤ l.checker.literals;
-  variables : 2 ≤ l.checker.variables
+  variables : 2 ≤ l.checker.variables;
 }

@@ -1,4 +1,4 @@
-use Rattle.std.proofs.Common.{◌∙◌, ◌++◌, ◌∷◌, [], sym, ap, subst}
+use Rattle.std.proofs.Common.{◌++◌, sym, ap, subst}
 use Rattle.std.proofs.lemmas.List.Elements.{Contains-append_left}
 use Rattle.l2_cnf.specs.Logic.{IsWithin, AllWithin}
 use Rattle.l2_cnf.proofs.Within.{AllWithin-none, AllWithin-push}
