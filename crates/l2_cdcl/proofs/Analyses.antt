@@ -43,9 +43,9 @@ pub open_end : (trail : List ℤ) (low start mid end : ℕ) (marks : List Bool) 
 open_end trail low start mid end marks aside none h m (inl put) = inl put
 open_end trail low start mid end marks aside none h m (inr (inl base)) = inr (inl base)
 open_end trail low start mid end marks aside none h m (inr (inr (j, a, b, c, d))) = elim (cases_lt j mid) [
-    | inl below ↦ inr (inr (j, a, below, c, d))
-    | inr above ↦ absurd (none j above b (subst (IsMarked marks) (sym (nat_abs-neg_ℤ m) ∙ ap nat_abs (sym c)) d))
-  ]
+  | inl below ↦ inr (inr (j, a, below, c, d))
+  | inr above ↦ absurd (none j above b (subst (IsMarked marks) (sym (nat_abs-neg_ℤ m) ∙ ap nat_abs (sym c)) d))
+]
 
 -- a step: the other literals of the reason of the literal at k are open now
 pub trace_step : (clauses : List (List ℤ)) (trail : List ℤ) (low start k : ℕ) (reason : List ℤ) (marks marks' : List Bool) (aside aside' : List ℤ) → AreApart trail → k < length trail
@@ -58,42 +58,42 @@ trace_step clauses trail low start k reason marks marks' aside aside' apart h in
       | inl put ↦ inl put
       | inr (inl base) ↦ inr (inl base)
       | inr (inr (i, a, c, f, d)) ↦
-        let same : i ≡ j = same_place trail i j m apart c (omega arith) f e in
-        inr (inr (i, a, omega (arith, same, b), f, d))
+          let same : i ≡ j = same_place trail i j m apart c (omega arith) f e in
+          inr (inr (i, a, omega (arith, same, b), f, d))
     ] in
     Refutes-resolve clauses (IsOpen trail low start (k + 1) marks aside) (IsOpen trail low start k marks' aside') reason (neg_ℤ l) inside (subst (Contains reason) back is.stands)
     (λ m c ne.
-      let differs : m ≢ l = λ e. ne (e ∙ back) in
-      let place = is.others m c differs in
-      nearer m place.0 place.1 place.2 (others m c differs))
+    let differs : m ≢ l = λ e. ne (e ∙ back) in
+    let place = is.others m c differs in
+    nearer m place.0 place.1 place.2 (others m c differs))
     (λ m open_one. elim open_one [
       | inl put ↦ inr (inl (more.put m put))
       | inr (inl base) ↦ inr (inr (inl base))
       | inr (inr (j, a, b, c, d)) ↦ elim (cases_lt j k) [
         | inl earlier ↦ inr (inr (inr (j, a, earlier, c, more.marked (nat_abs m) d)))
         | inr same ↦
-          let e : j ≡ k = omega arith in
-          inl (sym (neg_ℤ-neg_ℤ m) ∙ ap neg_ℤ (sym c ∙ ap (λ x. get_or trail x (pos 0)) e))
+            let e : j ≡ k = omega arith in
+            inl (sym (neg_ℤ-neg_ℤ m) ∙ ap neg_ℤ (sym c ∙ ap (λ x. get_or trail x (pos 0)) e))
       ]
     ]) refutes
 
 -- where nothing below k is marked, the literal at k is the first point through which the conflict goes
 pub first_point : (clauses : List (List ℤ)) (trail : List ℤ) (low start k : ℕ) (marks : List Bool) (aside : List ℤ) → AreUnmarked trail marks start k → IsTraced clauses trail low start k marks aside → IsPoint clauses trail low start k aside
 first_point clauses trail low start k marks aside none is = record {
-    first = is.first;
-    within = is.within;
-    below = is.put.below;
-    refutes = Refutes-more clauses (IsOpen trail low start (k + 1) marks aside) (λ m. (m ≡ neg_ℤ (get_or trail k (pos 0))) ⊎ ((Contains aside m) ⊎ (IsFalseBefore trail low m))) (λ m open_one. elim open_one [
-      | inl put ↦ inr (inl put)
-      | inr (inl base) ↦ inr (inr base)
-      | inr (inr (j, a, b, c, d)) ↦ elim (cases_lt j k) [
-        | inl earlier ↦ absurd (none j a earlier (subst (IsMarked marks) (sym (nat_abs-neg_ℤ m) ∙ ap nat_abs (sym c)) d))
-        | inr same ↦
+  first = is.first;
+  within = is.within;
+  below = is.put.below;
+  refutes = Refutes-more clauses (IsOpen trail low start (k + 1) marks aside) (λ m. (m ≡ neg_ℤ (get_or trail k (pos 0))) ⊎ ((Contains aside m) ⊎ (IsFalseBefore trail low m))) (λ m open_one. elim open_one [
+    | inl put ↦ inr (inl put)
+    | inr (inl base) ↦ inr (inr base)
+    | inr (inr (j, a, b, c, d)) ↦ elim (cases_lt j k) [
+      | inl earlier ↦ absurd (none j a earlier (subst (IsMarked marks) (sym (nat_abs-neg_ℤ m) ∙ ap nat_abs (sym c)) d))
+      | inr same ↦
           let e : j ≡ k = omega arith in
           inl (sym (neg_ℤ-neg_ℤ m) ∙ ap neg_ℤ (sym c ∙ ap (λ x. get_or trail x (pos 0)) e))
-      ]
-    ]) is.refutes
-  }
+    ]
+  ]) is.refutes;
+}
 
 part_has : (trail : List ℤ) (n j : ℕ) (m : ℤ) → n ≤ length trail → j < n → get_or trail j (pos 0) ≡ m → Contains (take n trail) m
 part_has trail n j m h b e =
@@ -126,9 +126,9 @@ one_place trail i j l m apart h k e f s =
 -- marks after one more
 marked_more : (marks : List Bool) (v w : ℕ) → v < length marks → IsMarked marks w → IsMarked (set marks v true) w
 marked_more marks v w h is = elim (cases_eq w v) [
-    | inl e ↦ ap (λ x. get_or (set marks v true) x false) e ∙ get_or-set_same marks v true false h
-    | inr ne ↦ get_or-set_other marks v w true false ne ∙ is
-  ]
+  | inl e ↦ ap (λ x. get_or (set marks v true) x false) e ∙ get_or-set_same marks v true false h
+  | inr ne ↦ get_or-set_other marks v w true false ne ∙ is
+]
 
 marked_now : (marks : List Bool) (v : ℕ) → v < length marks → IsMarked (set marks v true) v
 marked_now marks v h = get_or-set_same marks v true false h
@@ -150,43 +150,43 @@ module _ (trail : List ℤ) (low start place : ℕ) (marks : List Bool) (aside :
   -- a literal whose variable is marked is open
   pub marked_open : IsAside trail low start marks aside → IsMarked marks (nat_abs l) → IsOpen trail low start (length trail) marks aside l
   marked_open is marked = elim (cases_lt place start) [
-      | inl b ↦ elim (is.marked l (place, b, e) marked) [ inl base ↦ inr (inl base) | inr put ↦ inl put ]
-      | inr b ↦ inr (inr (place, b, h, e, marked))
-    ]
+    | inl b ↦ elim (is.marked l (place, b, e) marked) [ inl base ↦ inr (inl base) | inr put ↦ inl put ]
+    | inr b ↦ inr (inr (place, b, h, e, marked))
+  ]
 
   -- a literal of the present level is marked
   pub mark_here : IsAside trail low start marks aside → AreApart trail → start ≤ length trail → nat_abs l < length marks → start ≤ place → (IsMore marks (set marks (nat_abs l) true) aside aside) × (IsAside trail low start (set marks (nat_abs l) true) aside) × (IsOpen trail low start (length trail) (set marks (nat_abs l) true) aside l)
   mark_here is apart most room high = (
-      record { marked = λ v k. marked_more marks (nat_abs l) v room k; put = λ m k. k },
-      record {
-        below = is.below;
-        marked = λ m (j, b, f) k. elim (cases_eq (nat_abs m) (nat_abs l)) [
-          | inl s ↦ absurd (let one = one_place trail place j l m apart h (omega (arith, b, most)) e f s in omega (arith, one.0, b, high))
-          | inr ne ↦ is.marked m (j, b, f) (marked_was marks (nat_abs l) (nat_abs m) k ne)
-        ]
-      },
-      inr (inr (place, high, h, e, marked_now marks (nat_abs l) room))
-    )
+    record { marked = λ v k. marked_more marks (nat_abs l) v room k; put = λ m k. k },
+    record {
+      below = is.below;
+      marked = λ m (j, b, f) k. elim (cases_eq (nat_abs m) (nat_abs l)) [
+        | inl s ↦ absurd (let one = one_place trail place j l m apart h (omega (arith, b, most)) e f s in omega (arith, one.0, b, high))
+        | inr ne ↦ is.marked m (j, b, f) (marked_was marks (nat_abs l) (nat_abs m) k ne)
+      ];
+    },
+    inr (inr (place, high, h, e, marked_now marks (nat_abs l) room)),
+  )
 
   -- a literal of a lower level is put aside
   pub mark_below : IsAside trail low start marks aside → AreApart trail → start ≤ length trail → nat_abs l < length marks → place < start → (IsMore marks (set marks (nat_abs l) true) aside (aside ++ l ∷ [])) × (IsAside trail low start (set marks (nat_abs l) true) (aside ++ l ∷ [])) × (IsOpen trail low start (length trail) (set marks (nat_abs l) true) (aside ++ l ∷ []) l)
   mark_below is apart most room high = (
-      record { marked = λ v k. marked_more marks (nat_abs l) v room k; put = λ m k. Contains-append_left aside (l ∷ []) m k },
-      record {
-        below = λ m k. elim (Contains-push_cases aside l m k) [
-          | inl old ↦ is.below m old
-          | inr s ↦ (place, high, e ∙ ap neg_ℤ s)
-        ];
-        marked = λ m (j, b, f) k. elim (cases_eq (nat_abs m) (nat_abs l)) [
-          | inl s ↦ inr (let one = one_place trail place j l m apart h (omega (arith, b, most)) e f s in subst (Contains (aside ++ l ∷ [])) (sym one.1) (Contains-push aside l))
-          | inr ne ↦ elim (is.marked m (j, b, f) (marked_was marks (nat_abs l) (nat_abs m) k ne)) [
-            | inl base ↦ inl base
-            | inr put ↦ inr (Contains-append_left aside (l ∷ []) m put)
-          ]
+    record { marked = λ v k. marked_more marks (nat_abs l) v room k; put = λ m k. Contains-append_left aside (l ∷ []) m k },
+    record {
+      below = λ m k. elim (Contains-push_cases aside l m k) [
+        | inl old ↦ is.below m old
+        | inr s ↦ (place, high, e ∙ ap neg_ℤ s)
+      ];
+      marked = λ m (j, b, f) k. elim (cases_eq (nat_abs m) (nat_abs l)) [
+        | inl s ↦ inr (let one = one_place trail place j l m apart h (omega (arith, b, most)) e f s in subst (Contains (aside ++ l ∷ [])) (sym one.1) (Contains-push aside l))
+        | inr ne ↦ elim (is.marked m (j, b, f) (marked_was marks (nat_abs l) (nat_abs m) k ne)) [
+          | inl base ↦ inl base
+          | inr put ↦ inr (Contains-append_left aside (l ∷ []) m put)
         ]
-      },
-      inl (Contains-push aside l)
-    )
+      ];
+    },
+    inl (Contains-push aside l),
+  )
 
 -- what was decided stands where its level opened
 pub cause_zero : (clauses : List (List ℤ)) (literals : List ℤ) (levels : List (ℕ × ℤ)) (k reason : ℕ) → HasCause clauses literals levels k reason → reason ≡ 0 → (j : ℕ) × (j < length levels) × (start_of levels j ≡ k) × (decision_of levels j ≡ get_or literals k (pos 0))
@@ -220,9 +220,9 @@ module _ (b : Board) (is : IsBoard b) (low start : ℕ) (present : IsPresent b l
   -- a conflict needs a literal
   pub some_literal : (clause : List ℤ) → Contains b.clauses clause → AreFalse b.past.literals clause → 0 < length b.past.literals
   some_literal clause c false_ones = elim (cases_lt 0 (length b.past.literals)) [
-      | inl h ↦ h
-      | inr h ↦ absurd (closed_below.live clause c (λ m k. let there = false_ones m k in absurd (omega (arith, there.1, h))))
-    ]
+    | inl h ↦ h
+    | inr h ↦ absurd (closed_below.live clause c (λ m k. let there = false_ones m k in absurd (omega (arith, there.1, h))))
+  ]
 
   -- a decided literal of the present level is its first
   pub decided_first : (k : ℕ) → start ≤ k → (j : ℕ) → j < length b.levels → start_of b.levels j ≡ k → k ≡ start
@@ -237,11 +237,11 @@ module _ (b : Board) (is : IsBoard b) (low start : ℕ) (present : IsPresent b l
   -- the trace goes on
   pub traced_to : (k end : ℕ) (marks : List Bool) (aside : List ℤ) → start ≤ k → k < end → end ≤ length b.past.literals → IsAside b.past.literals low start marks aside → AreUnmarked b.past.literals marks (k + 1) end → Refutes b.clauses (IsOpen b.past.literals low start end marks aside) → IsTraced b.clauses b.past.literals low start k marks aside
   traced_to k end marks aside first last within put none refutes = record {
-      first = first;
-      within = omega (arith, last, within);
-      put = put;
-      refutes = Refutes-more b.clauses (IsOpen b.past.literals low start end marks aside) (IsOpen b.past.literals low start (k + 1) marks aside) (open_end b.past.literals low start (k + 1) end marks aside none (omega (arith, first))) refutes
-    }
+    first = first;
+    within = omega (arith, last, within);
+    put = put;
+    refutes = Refutes-more b.clauses (IsOpen b.past.literals low start end marks aside) (IsOpen b.past.literals low start (k + 1) marks aside) (open_end b.past.literals low start (k + 1) end marks aside none (omega (arith, first))) refutes;
+  }
 
   -- something is open
   pub some_open : (end : ℕ) (marks : List Bool) (aside : List ℤ) → IsAside b.past.literals low start marks aside → Refutes b.clauses (IsOpen b.past.literals low start end marks aside) → ¬ AreUnmarked b.past.literals marks start end

@@ -14,12 +14,12 @@ use Rattle.l2_cdcl.proofs.Learnings.{others-added, others-learnt, learnt-same, l
 -- the clauses stay
 pub IsEngine-same : (at : List ℕ) (b b' : Board) (marks marks' : List Bool) (refuted : Bool) → IsEngine at b marks refuted → b'.clauses ≡ b.clauses → (b'.ready ≡ true → b'.variables < length marks') → IsEngine at b' marks' refuted
 IsEngine-same at b b' marks marks' refuted is e room = record {
-    within = rw e is.within;
-    implied = rw e is.implied;
-    found = rw e is.found;
-    told = rw e is.told;
-    room = room
-  }
+  within = rw e is.within;
+  implied = rw e is.implied;
+  found = rw e is.found;
+  told = rw e is.told;
+  room = room;
+}
 
 not_yet : (at : List ℕ) (n : ℕ) → ((i : ℕ) → Contains at i → i < n) → ¬ Contains at n
 not_yet at n within h = omega (arith, within n h)
@@ -53,11 +53,11 @@ IsEngine-add at b b' marks refuted clause is e idle =
     record {
       within = λ i h. omega (arith, is.within i h, ap length e, length_push b.clauses clause);
       implied = λ v model.
-        let all : Satisfies v (added_of at b.clauses ++ clause ∷ []) = subst (Satisfies v) added model in
-        subst (Satisfies v) (sym e) (satisfies_more v b.clauses clause (is.implied v (satisfies_front v (added_of at b.clauses) clause all)) (satisfies_last v (added_of at b.clauses) clause all));
+          let all : Satisfies v (added_of at b.clauses ++ clause ∷ []) = subst (Satisfies v) added model in
+          subst (Satisfies v) (sym e) (satisfies_more v b.clauses clause (is.implied v (satisfies_front v (added_of at b.clauses) clause all)) (satisfies_last v (added_of at b.clauses) clause all));
       found = λ t. subst (λ x. Contains x []) (sym learnt) (is.found t);
       told = λ h. is.told (subst (λ x. Contains x []) learnt h);
-      room = λ t. absurd (let z : true ≡ false = sym t ∙ idle in cc)
+      room = λ t. absurd (let z : true ≡ false = sym t ∙ idle in cc);
     }
 
 -- a clause is learnt
@@ -72,8 +72,8 @@ IsEngine-learn at at' b b' marks marks' refuted refuted' clause n is e f g liter
         | inr s ↦ omega (arith, s, e, ap length g, length_push b.clauses clause)
       ];
       implied = λ v model.
-        let old : Satisfies v b.clauses = is.implied v (subst (Satisfies v) added model) in
-        subst (Satisfies v) (sym g) (satisfies_more v b.clauses clause old (Follows-implied v b.clauses clause literals follows old));
+          let old : Satisfies v b.clauses = is.implied v (subst (Satisfies v) added model) in
+          subst (Satisfies v) (sym g) (satisfies_more v b.clauses clause old (Follows-implied v b.clauses clause literals follows old));
       found = λ t. subst (λ x. Contains x []) (sym learnt) (elim end [
         | inl (none, r) ↦ subst (λ c. Contains (learnt_of at b.clauses ++ clause ∷ []) c) none (Contains-push (learnt_of at b.clauses) clause)
         | inr (some, r) ↦ Contains-append_left (learnt_of at b.clauses) (clause ∷ []) [] (is.found (sym r ∙ t))
@@ -85,7 +85,7 @@ IsEngine-learn at at' b b' marks marks' refuted refuted' clause n is e f g liter
           | inr s ↦ absurd (some s)
         ]
       ];
-      room = room
+      room = room;
     }
 
 -- nothing yet
@@ -97,7 +97,7 @@ IsEngine-none at b marks e f idle =
       implied = λ v model c h. absurd (omega (arith, h.1, ap length f));
       found = λ t. absurd (let z : false ≡ true = t in cc);
       told = λ h. absurd (omega (arith, h.1, ap length learnt));
-      room = λ t. absurd (let z : true ≡ false = sym t ∙ idle in cc)
+      room = λ t. absurd (let z : true ≡ false = sym t ∙ idle in cc);
     }
 
 -- a number that was pushed and popped

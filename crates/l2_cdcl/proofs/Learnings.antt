@@ -95,9 +95,9 @@ learnt_has at clauses k (j, h, e) =
 -- the list holds what was added and what was learnt
 pub all_inside : (at : List ℕ) (clauses : List (List ℤ)) (c : List ℤ) → ((i : ℕ) → Contains at i → i < length clauses) → Contains (added_of at clauses ++ learnt_of at clauses) c → Contains clauses c
 all_inside at clauses c within h = elim (Contains-append_cases (added_of at clauses) (learnt_of at clauses) c h) [
-    | inl added ↦ others_inside 0 at clauses c added
-    | inr learnt ↦ learnt_inside at clauses c within learnt
-  ]
+  | inl added ↦ others_inside 0 at clauses c added
+  | inr learnt ↦ learnt_inside at clauses c within learnt
+]
 
 pub inside_all : (at : List ℕ) (clauses : List (List ℤ)) (c : List ℤ) → Contains clauses c → Contains (added_of at clauses ++ learnt_of at clauses) c
 inside_all at clauses c (k, h, e) =

@@ -69,10 +69,10 @@ number_new list n clause old new h c_over o_over e = new (absorbed_if_same list 
 pub at_most : (n : ℕ) (learnt : List (List ℤ)) → IsDistinct eqb (map (number_of (2 * n + 2)) learnt) → length learnt ≤ 2 ^ (2 * n + 2)
 at_most n learnt distinct =
     let bound = length-le_from_distinct_below (map (number_of (2 * n + 2)) learnt) (2 ^ (2 * n + 2)) distinct (λ q h.
-      let there = Contains-from_any eqb_same q (map (number_of (2 * n + 2)) learnt) h in
-      let within : there.0 < length learnt = omega (arith, there.1, length-map learnt (number_of (2 * n + 2))) in
-      let is : number_of (2 * n + 2) (get_or learnt there.0 []) ≡ q = sym (get_or-map (number_of (2 * n + 2)) learnt there.0 [] q within) ∙ there.2 in
-      subst (λ x. x < 2 ^ (2 * n + 2)) is (number_of-lt (2 * n + 2) (get_or learnt there.0 []))) in
+    let there = Contains-from_any eqb_same q (map (number_of (2 * n + 2)) learnt) h in
+    let within : there.0 < length learnt = omega (arith, there.1, length-map learnt (number_of (2 * n + 2))) in
+    let is : number_of (2 * n + 2) (get_or learnt there.0 []) ≡ q = sym (get_or-map (number_of (2 * n + 2)) learnt there.0 [] q within) ∙ there.2 in
+    subst (λ x. x < 2 ^ (2 * n + 2)) is (number_of-lt (2 * n + 2) (get_or learnt there.0 []))) in
     omega (arith, bound, length-map learnt (number_of (2 * n + 2)))
 
 -- the numbers stay distinct as a clause is learnt that isn't absorbed
@@ -81,12 +81,12 @@ distinct_more list n learnt clause distinct new inside over all =
     let f : List ℤ → ℕ = number_of (2 * n + 2) in
     let fresh : (b : Bool) → list_any (eqb (f clause)) (map f learnt) ≡ b → b ≡ false = elim [
       | true ↦ λ e.
-        let there = Contains-from_any eqb_same (f clause) (map f learnt) e in
-        let within : there.0 < length learnt = omega (arith, there.1, length-map learnt f) in
-        let old : List ℤ = get_or learnt there.0 [] in
-        let is : f old ≡ f clause = sym (get_or-map f learnt there.0 [] (f clause) within) ∙ there.2 in
-        let at : Contains learnt old = (there.0, within, get_or_default learnt there.0 _ _ within) in
-        absurd (number_new list n clause old new (inside old at) over (all old at) (sym is))
+          let there = Contains-from_any eqb_same (f clause) (map f learnt) e in
+          let within : there.0 < length learnt = omega (arith, there.1, length-map learnt f) in
+          let old : List ℤ = get_or learnt there.0 [] in
+          let is : f old ≡ f clause = sym (get_or-map f learnt there.0 [] (f clause) within) ∙ there.2 in
+          let at : Contains learnt old = (there.0, within, get_or_default learnt there.0 _ _ within) in
+          absurd (number_new list n clause old new (inside old at) over (all old at) (sym is))
       | false ↦ λ e. refl
     ] in
     rw map_push (IsDistinct-push nat_eq_equiv (map f learnt) (f clause) distinct (fresh _ refl))

@@ -39,30 +39,30 @@ set_kept values l m x h ne is = set_there values (nat_abs l) (nat_abs m) x h ne 
 pub has_or_not : (list : List ℤ) (l : ℤ) → Contains list l ⊎ (¬ Contains list l)
 has_or_not [] l = inr (λ h. omega (arith, h.1))
 has_or_not (x ∷ xs) l = elim (same_or_not x l) [
-    | inl e ↦ inl (0, omega arith, e)
-    | inr ne ↦ elim (has_or_not xs l) [
-      | inl h ↦ inl (Contains-append_right (x ∷ []) xs l h)
-      | inr none ↦ inr (λ h. elim (Contains-append_cases (x ∷ []) xs l h) [
-        | inl here ↦ ne (one_in x l here)
-        | inr there ↦ none there
-      ])
-    ]
+  | inl e ↦ inl (0, omega arith, e)
+  | inr ne ↦ elim (has_or_not xs l) [
+    | inl h ↦ inl (Contains-append_right (x ∷ []) xs l h)
+    | inr none ↦ inr (λ h. elim (Contains-append_cases (x ∷ []) xs l h) [
+      | inl here ↦ ne (one_in x l here)
+      | inr there ↦ none there
+    ])
   ]
+]
 
 -- where no variable is free each literal is true or false
 total : (b : Board) (l : ℤ) → ¬ HasFree b.past.literals b.variables → 1 ≤ nat_abs l → nat_abs l ≤ b.variables → Contains b.past.literals l ⊎ Contains b.past.literals (neg_ℤ l)
 total b l none some over = elim (has_or_not b.past.literals l) [
-    | inl h ↦ inl h
-    | inr unset ↦ elim (has_or_not b.past.literals (neg_ℤ l)) [
-      | inl h ↦ inr h
-      | inr live ↦ absurd (none (l, record { some = some; over = over; unset = unset; live = live }))
-    ]
+  | inl h ↦ inl h
+  | inr unset ↦ elim (has_or_not b.past.literals (neg_ℤ l)) [
+    | inl h ↦ inr h
+    | inr live ↦ absurd (none (l, record { some = some; over = over; unset = unset; live = live }))
   ]
+]
 
 -- a whole board gives a model
 pub whole_model : (s : Search) (assumptions : List ℤ) (values : List (Option Bool)) → IsSearch s → IsWhole assumptions s.board → ((l : ℤ) → Contains s.board.past.literals l → MakesTrue values l) → IsModel values s.added assumptions
 whole_model s assumptions values facts whole makes = record {
-    clauses_met = λ clause h.
+  clauses_met = λ clause h.
       let b = s.board in
       let inside : Contains b.clauses clause = facts.inside clause (Contains-append_left s.added s.learnt clause h) in
       let each : (l : ℤ) → Contains clause l → Contains b.past.literals l ⊎ Contains b.past.literals (neg_ℤ l) = λ l c. (let o = facts.kept.over clause inside l c in total b l whole.none o.0 o.1) in
@@ -77,8 +77,8 @@ whole_model s assumptions values facts whole makes = record {
           | inr false_one ↦ false_one
         ]))
       ];
-    assumptions_met = λ l h. makes l (whole.met l h)
-  }
+  assumptions_met = λ l h. makes l (whole.met l h);
+}
 
 -- what the board settles has no model
 settled_none : (s : Search) (core : List ℤ) → IsSearch s → Settles s.board.clauses core → (v : ℕ → Bool) → Satisfies v s.added → ((l : ℤ) → Contains core l → literal_true v l ≡ true) → ⊥
@@ -97,7 +97,7 @@ core_is s assumptions core n facts e h settled =
     record {
       part = λ l k. take_part assumptions n l h (subst (λ x. Contains x l) e k);
       none = settled_none s core facts here;
-      settled = settles_same s.board.clauses (s.added ++ s.learnt) core facts.all here
+      settled = settles_same s.board.clauses (s.added ++ s.learnt) core facts.all here;
     }
 
 -- an empty clause settles all
@@ -120,11 +120,11 @@ learning_none assumptions added old new e = record { more = []; learnt = e ∙ s
 -- what a search learnt
 pub learning_search : (assumptions : List ℤ) (s t : Search) (added old new : List (List ℤ)) → IsSearched assumptions s t → s.added ≡ added → s.learnt ≡ old → new ≡ t.learnt → IsLearning assumptions added old new
 learning_search assumptions s t added old new is e f g = record {
-    more = is.more;
-    learnt = g ∙ is.learnt ∙ ap (λ x. x ++ is.more) f;
-    all = subst (λ x. AreLearnt x old is.more) e (subst (λ x. AreLearnt s.added x is.more) f is.all);
-    settled = λ h. inl (is.settled (subst (λ x. Settles (x ++ s.learnt) assumptions) (sym e) (subst (λ x. Settles (added ++ x) assumptions) (sym f) h)))
-  }
+  more = is.more;
+  learnt = g ∙ is.learnt ∙ ap (λ x. x ++ is.more) f;
+  all = subst (λ x. AreLearnt x old is.more) e (subst (λ x. AreLearnt s.added x is.more) f is.all);
+  settled = λ h. inl (is.settled (subst (λ x. Settles (x ++ s.learnt) assumptions) (sym e) (subst (λ x. Settles (added ++ x) assumptions) (sym f) h)));
+}
 
 -- and then the empty clause
 pub learning_closed : (assumptions : List ℤ) (s t : Search) (added old new : List (List ℤ)) → IsSearched assumptions s t → IsSearch t → t.added ≡ added → s.added ≡ added → s.learnt ≡ old → new ≡ t.learnt ++ [] ∷ [] → ¬ Contains old [] → Follows t.board.clauses [] → IsLearning assumptions added old new
@@ -137,19 +137,19 @@ learning_closed assumptions s t added old new is facts d e f g first follows =
       learnt = g ∙ ap (λ x. x ++ [] ∷ []) before ∙ append_assoc old is.more ([] ∷ []);
       all = AreLearnt-push added old is.more [] base.all (record {
         follows = follows_same t.board.clauses (added ++ (old ++ is.more)) [] (λ c h. subst (λ x. Contains x c) (λ i. d i ++ before i) (facts.all c h)) follows;
-        new = inl (refl, (λ h. elim (Contains-append_cases old is.more [] h) [ inl there ↦ first there | inr there ↦ is.some [] there refl ]))
+        new = inl (refl, (λ h. elim (Contains-append_cases old is.more [] h) [ inl there ↦ first there | inr there ↦ is.some [] there refl ]));
       });
       settled = λ h. elim (base.settled h) [
         | inl none ↦ inr (ap (λ x. x ++ [] ∷ []) none)
         | inr one ↦ absurd (is.some [] (subst (λ x. Contains x []) (sym one) (0, omega arith, refl)) refl)
-      ]
+      ];
     }
 
 -- the empty clause alone
 pub learning_empty : (assumptions : List ℤ) (s : Search) (added old new : List (List ℤ)) → IsSearch s → s.added ≡ added → s.learnt ≡ old → new ≡ old ++ [] ∷ [] → ¬ Contains old [] → Follows s.board.clauses [] → IsLearning assumptions added old new
 learning_empty assumptions s added old new facts e f g first follows = record {
-    more = [] ∷ [];
-    learnt = g;
-    all = (record { follows = follows_same s.board.clauses (added ++ old) [] (λ c h. subst (λ x. Contains x c) (λ i. e i ++ f i) (facts.all c h)) follows; new = inl (refl, first) }, tt);
-    settled = λ h. inr refl
-  }
+  more = [] ∷ [];
+  learnt = g;
+  all = (record { follows = follows_same s.board.clauses (added ++ old) [] (λ c h. subst (λ x. Contains x c) (λ i. e i ++ f i) (facts.all c h)) follows; new = inl (refl, first) }, tt);
+  settled = λ h. inr refl;
+}

@@ -33,8 +33,8 @@ reached_below b given (suc n) is within decided k h =
     elim (cases_lt k n) [
       | inl low ↦ below k low
       | inr high ↦
-        let e : k ≡ n = omega (arith, h, high) in
-        reached_cause b.clauses b.past.literals b.levels given k (get_or b.past.reasons k 0) (is.caused k (omega (arith, h, within))) (λ j i at. decided j i (omega (arith, at, e))) (λ j a. below j (omega (arith, a, e)))
+          let e : k ≡ n = omega (arith, h, high) in
+          reached_cause b.clauses b.past.literals b.levels given k (get_or b.past.reasons k 0) (is.caused k (omega (arith, h, within))) (λ j i at. decided j i (omega (arith, at, e))) (λ j a. below j (omega (arith, a, e)))
     ]
 
 -- each literal is reached from what was decided
@@ -83,13 +83,17 @@ false_cause b assumptions l k (suc r) is are most at h e (i, reason) =
     let decided = assumed_first assumptions b.levels n are (omega arith) (omega (arith, most)) in
     let clause : List ℤ = get_or b.clauses r [] in
     let here : Contains (take n assumptions) l = part_has assumptions n (length b.levels) l (omega arith) (omega (arith, most)) at in
-    inr (clause, (r, i, get_or_default b.clauses r _ _ i), (λ m c. elim (same_or_not m (get_or b.past.literals k (pos 0))) [
-      | inl s ↦ assumed (subst given (sym (ap neg_ℤ (s ∙ e) ∙ neg_ℤ-neg_ℤ l)) here)
-      | inr ne ↦
-        let place = reason.others m c ne in
-        let within : place.0 < length b.past.literals = omega (arith, place.1, h) in
-        reached_all b given is decided (neg_ℤ m) (place.0, within, get_or_default b.past.literals place.0 (neg_ℤ m) (pos 0) within ∙ place.2)
-    ]))
+    inr (
+      clause,
+      (r, i, get_or_default b.clauses r _ _ i),
+      (λ m c. elim (same_or_not m (get_or b.past.literals k (pos 0))) [
+        | inl s ↦ assumed (subst given (sym (ap neg_ℤ (s ∙ e) ∙ neg_ℤ-neg_ℤ l)) here)
+        | inr ne ↦
+            let place = reason.others m c ne in
+            let within : place.0 < length b.past.literals = omega (arith, place.1, h) in
+            reached_all b given is decided (neg_ℤ m) (place.0, within, get_or_default b.past.literals place.0 (neg_ℤ m) (pos 0) within ∙ place.2)
+      ]),
+    )
 
 pub settled_false : (b : Board) (assumptions : List ℤ) (l : ℤ) → IsBoard b → AreAssumed assumptions b.levels → length b.levels < length assumptions → get_or assumptions (length b.levels) (pos 0) ≡ l → Contains b.past.literals (neg_ℤ l) → Settles b.clauses (take (length b.levels + 1) assumptions)
 settled_false b assumptions l is are most at (k, h, e) =
@@ -102,8 +106,8 @@ unsettled_levels b assumptions is ready are most =
     let s : ℕ = start_of b.levels n in
     not_settled b.clauses (take s b.past.literals) assumptions (is.before ready n most) (part_consistent b.past.literals s (is.levels.within n most) is.consistent)
     (λ l (j, h, e).
-      let here : decision_of b.levels j ≡ l = are j (omega (arith, h, most)) h ∙ get_or_default assumptions j (pos 0) l h ∙ e in
-      subst (Contains (take s b.past.literals)) here (is.levels.made j n h most))
+    let here : decision_of b.levels j ≡ l = are j (omega (arith, h, most)) h ∙ get_or_default assumptions j (pos 0) l h ∙ e in
+    subst (Contains (take s b.past.literals)) here (is.levels.made j n h most))
 
 -- a whole board meets the assumptions
 pub whole_met : (b : Board) (assumptions : List ℤ) → IsBoard b → AreAssumed assumptions b.levels → length assumptions ≤ length b.levels → (l : ℤ) → Contains assumptions l → Contains b.past.literals l
@@ -126,10 +130,13 @@ some_is (Some r) e = (r, refl)
 pub turn_before : (assumptions : List ℤ) (old mid new : Search) (t : Turn) → mid.learnt ≡ old.learnt → mid.board.clauses ≡ old.board.clauses → mid.board.variables ≡ old.board.variables → mid.board.levels ≡ old.board.levels → length old.board.past.literals ≤ length mid.board.past.literals → IsTurn assumptions mid new t → IsTurn assumptions old new t
 turn_before assumptions old mid new Learnt e f g h k (clause, grew, follows, new_one, over, unsettled) =
     (clause, grew ∙ ap (λ x. x ++ clause ∷ []) e, subst (λ x. Follows x clause) f follows, subst (λ x. ¬ IsAbsorbed x clause) f new_one, subst (λ n. AreOver n clause) g over, subst (λ x. ¬ Settles x assumptions) f unsettled)
-turn_before assumptions old mid new Decided e f g h k (same, forward) = (same ∙ e, elim forward [
+turn_before assumptions old mid new Decided e f g h k (same, forward) = (
+  same ∙ e,
+  elim forward [
     | inl more ↦ inl (omega (arith, k, more))
     | inr (long, low, opened) ↦ inr (omega (arith, k, long), omega (arith, low, ap length h), omega (arith, opened, ap length h))
-  ])
+  ],
+)
 turn_before assumptions old mid new Whole e f g h k (same, whole) = (same ∙ e, whole)
 turn_before assumptions old mid new (Refuted n) e f g h k (same, most, settled) = (same ∙ e, most, settled)
 

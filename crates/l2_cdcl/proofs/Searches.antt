@@ -21,9 +21,9 @@ use Rattle.l2_cdcl.proofs.Measure.{at_most, distinct_more, falls_learnt, falls_d
 -- what is learnt over a list holds over one with the same clauses
 pub absorbed_same : (list list' : List (List ℤ)) (clause : List ℤ) → ((c : List ℤ) → Contains list c → Contains list' c) → IsAbsorbed list clause → IsAbsorbed list' clause
 absorbed_same list list' clause inside absorbed l h = elim (absorbed l h) [
-    | inl reached ↦ inl (more list list' (NegationBut clause l) (NegationBut clause l) inside (λ m k. assumed k) l reached)
-    | inr conflict ↦ inr (more_conflicts list list' (NegationBut clause l) (NegationBut clause l) inside (λ m k. assumed k) conflict)
-  ]
+  | inl reached ↦ inl (more list list' (NegationBut clause l) (NegationBut clause l) inside (λ m k. assumed k) l reached)
+  | inr conflict ↦ inr (more_conflicts list list' (NegationBut clause l) (NegationBut clause l) inside (λ m k. assumed k) conflict)
+]
 
 pub follows_same : (list list' : List (List ℤ)) (clause : List ℤ) → ((c : List ℤ) → Contains list c → Contains list' c) → Follows list clause → Follows list' clause
 follows_same list list' clause inside follows = more_conflicts list list' (Negation clause) (Negation clause) inside (λ m k. assumed k) follows
@@ -41,26 +41,26 @@ AreLearnt-push added before (c ∷ clauses) clause all last = (all.0, AreLearnt-
 pub searched_none : (assumptions : List ℤ) (s : Search) → IsSearched assumptions s s
 unfolding IsDistinct
 searched_none assumptions s = record {
-    more = [];
-    learnt = sym (append-nil s.learnt);
-    all = tt;
-    settled = λ h. refl;
-    some = λ c h. absurd (omega (arith, h.1));
-    distinct = tt;
-    over = λ c h. absurd (omega (arith, h.1))
-  }
+  more = [];
+  learnt = sym (append-nil s.learnt);
+  all = tt;
+  settled = λ h. refl;
+  some = λ c h. absurd (omega (arith, h.1));
+  distinct = tt;
+  over = λ c h. absurd (omega (arith, h.1));
+}
 
 -- a search on
 pub searched_same : (assumptions : List ℤ) (old mid new : Search) → IsSearched assumptions old mid → new.learnt ≡ mid.learnt → IsSearched assumptions old new
 searched_same assumptions old mid new is e = record {
-    more = is.more;
-    learnt = e ∙ is.learnt;
-    all = is.all;
-    settled = is.settled;
-    some = is.some;
-    distinct = is.distinct;
-    over = is.over
-  }
+  more = is.more;
+  learnt = e ∙ is.learnt;
+  all = is.all;
+  settled = is.settled;
+  some = is.some;
+  distinct = is.distinct;
+  over = is.over;
+}
 
 module _ (assumptions : List ℤ) (old mid new : Search) (is : IsSearched assumptions old mid) (facts : IsSearch mid) (added : mid.added ≡ old.added) where
   -- the list before and what was learnt since
@@ -88,23 +88,23 @@ module _ (assumptions : List ℤ) (old mid new : Search) (is : IsSearched assump
   pub searched_more : (clause : List ℤ) → old.board.variables ≡ mid.board.variables → new.learnt ≡ mid.learnt ++ clause ∷ [] → Follows mid.board.clauses clause → ¬ IsAbsorbed mid.board.clauses clause → AreOver mid.board.variables clause → ¬ Settles mid.board.clauses assumptions → IsSearched assumptions old new
   unfolding list
   searched_more clause vars e follows fresh over unsettled = record {
-      more = is.more ++ clause ∷ [];
-      learnt = e ∙ ap (λ x. x ++ clause ∷ []) is.learnt ∙ append_assoc old.learnt is.more (clause ∷ []);
-      all = AreLearnt-push old.added old.learnt is.more clause is.all (record {
-        follows = follows_same mid.board.clauses (old.added ++ (old.learnt ++ is.more)) clause (λ c h. subst (λ x. Contains x c) (append_assoc old.added old.learnt is.more) (from_board c h)) follows;
-        new = inr (λ absorbed. fresh (absorbed_same (old.added ++ (old.learnt ++ is.more)) mid.board.clauses clause (λ c h. to_board c (subst (λ x. Contains x c) (sym (append_assoc old.added old.learnt is.more)) h)) absorbed))
-      });
-      some = λ c h. elim (Contains-push_cases is.more clause c h) [
-        | inl before_it ↦ is.some c before_it
-        | inr s ↦ λ e. fresh (subst (IsAbsorbed mid.board.clauses) (sym (s ∙ e)) (IsAbsorbed-empty mid.board.clauses))
-      ];
-      settled = λ h. absurd (unsettled_before unsettled h);
-      distinct = distinct_more mid.board.clauses old.board.variables is.more clause is.distinct fresh (λ c h. to_board c (Contains-append_right (old.added ++ old.learnt) is.more c h)) (subst (λ n. AreOver n clause) (sym vars) over) is.over;
-      over = λ c h. elim (Contains-push_cases is.more clause c h) [
-        | inl before_it ↦ is.over c before_it
-        | inr s ↦ subst (AreOver old.board.variables) s (subst (λ n. AreOver n clause) (sym vars) over)
-      ]
-    }
+    more = is.more ++ clause ∷ [];
+    learnt = e ∙ ap (λ x. x ++ clause ∷ []) is.learnt ∙ append_assoc old.learnt is.more (clause ∷ []);
+    all = AreLearnt-push old.added old.learnt is.more clause is.all (record {
+      follows = follows_same mid.board.clauses (old.added ++ (old.learnt ++ is.more)) clause (λ c h. subst (λ x. Contains x c) (append_assoc old.added old.learnt is.more) (from_board c h)) follows;
+      new = inr (λ absorbed. fresh (absorbed_same (old.added ++ (old.learnt ++ is.more)) mid.board.clauses clause (λ c h. to_board c (subst (λ x. Contains x c) (sym (append_assoc old.added old.learnt is.more)) h)) absorbed));
+    });
+    some = λ c h. elim (Contains-push_cases is.more clause c h) [
+      | inl before_it ↦ is.some c before_it
+      | inr s ↦ λ e. fresh (subst (IsAbsorbed mid.board.clauses) (sym (s ∙ e)) (IsAbsorbed-empty mid.board.clauses))
+    ];
+    settled = λ h. absurd (unsettled_before unsettled h);
+    distinct = distinct_more mid.board.clauses old.board.variables is.more clause is.distinct fresh (λ c h. to_board c (Contains-append_right (old.added ++ old.learnt) is.more c h)) (subst (λ n. AreOver n clause) (sym vars) over) is.over;
+    over = λ c h. elim (Contains-push_cases is.more clause c h) [
+      | inl before_it ↦ is.over c before_it
+      | inr s ↦ subst (AreOver old.board.variables) s (subst (λ n. AreOver n clause) (sym vars) over)
+    ];
+  }
 
 -- how much is left: n variables, l clauses learnt, s literals true, a assumptions and p levels
 abbrev pub left : ℕ → ℕ → ℕ → ℕ → ℕ → ℕ
@@ -127,11 +127,11 @@ left_grown n l s t a p q h k = outer _ _ a q p (falls_decided (2 ^ (2 * n + 2)) 
 
 pub left_opened : (n l s t a p q : ℕ) → s ≤ t → t ≤ n → p < a → q ≡ p + 1 → left n l t a q < left n l s a p
 left_opened n l s t a p q h k b e = elim (cases_lt s t) [
-    | inl more ↦ left_grown n l s t a p q more k
-    | inr same ↦
+  | inl more ↦ left_grown n l s t a p q more k
+  | inr same ↦
       let f : t ≡ s = omega (arith, h, same) in
       rw (f, e) (step _ a p b)
-  ]
+]
   where
     step : (x a p : ℕ) → p < a → x + (a - (p + 1)) < x + (a - p)
     step x a p b = omega arith
@@ -154,7 +154,7 @@ left_falls assumptions old mid new t (inl e) is then facts vars vars' turn =
     let after : length new.learnt ≡ length old.learnt + length then.more = ap length then.learnt ∙ length-append old.learnt then.more in
     let one : length new.learnt ≡ length mid.learnt + 1 = ap length grew ∙ length_push mid.learnt clause in
     left_learnt old.board.variables (length mid.learnt - length old.learnt) (length new.learnt - length old.learnt) (length mid.board.past.literals) (length new.board.past.literals) (length assumptions) (length mid.board.levels) (length new.board.levels)
-      (omega (arith, before, one)) (omega (arith, after, at_most old.board.variables then.more then.distinct)) (omega (arith, facts.kept.most, vars, vars'))
+    (omega (arith, before, one)) (omega (arith, after, at_most old.board.variables then.more then.distinct)) (omega (arith, facts.kept.most, vars, vars'))
 left_falls assumptions old mid new t (inr e) is then facts vars vars' turn =
     let (same, forward) = subst (IsTurn assumptions mid new) e turn in
     let n : length new.learnt ≡ length mid.learnt = ap length same in

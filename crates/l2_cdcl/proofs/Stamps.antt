@@ -16,6 +16,6 @@ lower s stamp h e = let f : s ≡ stamp = grind (arith, nat_tests) in omega (ari
 
 pub none_marked : (stamps : List ℕ) (stamp : ℕ) → ((v : ℕ) → get_or stamps v 0 < stamp) → (v : ℕ) → ¬ IsMarked (map (λ s. eqb s stamp) stamps) v
 none_marked stamps stamp above v is = elim (cases_lt v (length stamps)) [
-    | inl b ↦ lower (get_or stamps v 0) stamp (above v) (sym (get_or-map (λ s. eqb s stamp) stamps v 0 false b) ∙ is)
-    | inr b ↦ (let past : get_or (map (λ s. eqb s stamp) stamps) v false ≡ false = get_or_past (map (λ s. eqb s stamp) stamps) v false (omega (arith, b, length-map stamps (λ s. eqb s stamp))) in let t : true ≡ false = sym is ∙ past in cc)
-  ]
+  | inl b ↦ lower (get_or stamps v 0) stamp (above v) (sym (get_or-map (λ s. eqb s stamp) stamps v 0 false b) ∙ is)
+  | inr b ↦ (let past : get_or (map (λ s. eqb s stamp) stamps) v false ≡ false = get_or_past (map (λ s. eqb s stamp) stamps) v false (omega (arith, b, length-map stamps (λ s. eqb s stamp))) in let t : true ≡ false = sym is ∙ past in cc)
+]

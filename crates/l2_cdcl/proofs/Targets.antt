@@ -56,11 +56,11 @@ target_some b start aside u w place level is present below last most above under
       within = within;
       below = λ m h. later_false trail (place + 1) (start_of b.levels level) m (omega (arith, above within)) (last.all m h);
       late = λ j h inside.
-        let low = is.levels.within j (omega (arith, h, within)) in
-        let at = part_false trail (start_of b.levels j) (neg_ℤ w) low inside in
-        let s : at.0 ≡ place = same_place trail at.0 place w is.apart (omega (arith, at.1, low)) last.within at.2 last.here in
-        omega (arith, at.1, s, under j h);
-      second = inr last.stands
+          let low = is.levels.within j (omega (arith, h, within)) in
+          let at = part_false trail (start_of b.levels j) (neg_ℤ w) low inside in
+          let s : at.0 ≡ place = same_place trail at.0 place w is.apart (omega (arith, at.1, low)) last.within at.2 last.here in
+          omega (arith, at.1, s, under j h);
+      second = inr last.stands;
     }
 
 pub target_none : (b : Board) (start : ℕ) (aside : List ℤ) (u : ℤ) → IsPresent b 0 start → aside ≡ [] → IsTarget b.past.literals b.levels aside u 0 u
@@ -70,7 +70,7 @@ target_none b start aside u present none =
       within = omega (arith, e);
       below = λ m h. (let there : Contains [] m = subst (λ x. Contains x m) none h in absurd (omega (arith, there.1)));
       late = λ j h. absurd (omega (arith, h));
-      second = inl (none, refl, refl)
+      second = inl (none, refl, refl);
     }
 
 -- the clause of a point: its literals, what it follows from, and that it is new
@@ -84,9 +84,9 @@ module _ (b : Board) (low start k : ℕ) (aside : List ℤ) (u : ℤ) (is : IsBo
 
   point_false : (m : ℤ) → Contains clause m → Contains b.past.literals (neg_ℤ m)
   point_false m h = elim (Contains-push_cases aside u m h) [
-      | inl old ↦ false_there b.past.literals start m (start_within b is low start present) (point.below m old)
-      | inr s ↦ (k, point.within, get_or_default b.past.literals k (neg_ℤ m) (pos 0) point.within ∙ away ∙ ap neg_ℤ s)
-    ]
+    | inl old ↦ false_there b.past.literals start m (start_within b is low start present) (point.below m old)
+    | inr s ↦ (k, point.within, get_or_default b.past.literals k (neg_ℤ m) (pos 0) point.within ∙ away ∙ ap neg_ℤ s)
+  ]
 
   pub point_over : AreOver b.variables clause
   point_over l h =
@@ -96,10 +96,10 @@ module _ (b : Board) (low start k : ℕ) (aside : List ℤ) (u : ℤ) (is : IsBo
 
   pub point_follows : 0 < length b.levels → Follows b.clauses clause
   point_follows some = Refutes-follows b.clauses clause (λ given false_ones. point.refutes given (λ m open_one. elim open_one [
-      | inl s ↦ false_ones m (subst (Contains clause) (sym (s ∙ sym e)) (Contains-push aside u))
-      | inr (inl put) ↦ false_ones m (Contains-append_left aside (u ∷ []) m put)
-      | inr (inr base) ↦ reached_root b (Contains given) low is present.low_is some m base
-    ]))
+    | inl s ↦ false_ones m (subst (Contains clause) (sym (s ∙ sym e)) (Contains-push aside u))
+    | inr (inl put) ↦ false_ones m (Contains-append_left aside (u ∷ []) m put)
+    | inr (inr base) ↦ reached_root b (Contains given) low is present.low_is some m base
+  ]))
 
   module _ (level : ℕ) (w : ℤ) (aim : IsTarget b.past.literals b.levels aside u level w) where
     abbrev at : ℕ
@@ -116,9 +116,9 @@ module _ (b : Board) (low start k : ℕ) (aside : List ℤ) (u : ℤ) (is : IsBo
 
     others_false : (m : ℤ) → Contains clause m → m ≢ u → Contains (take at b.past.literals) (neg_ℤ m)
     others_false m h ne = elim (Contains-push_cases aside u m h) [
-        | inl old ↦ false_part b.past.literals at m low_at (aim.below m old)
-        | inr s ↦ absurd (ne (sym s))
-      ]
+      | inl old ↦ false_part b.past.literals at m low_at (aim.below m old)
+      | inr s ↦ absurd (ne (sym s))
+    ]
 
     u_live : ¬ Contains (take at b.past.literals) (neg_ℤ u)
     u_live h =
@@ -140,25 +140,28 @@ module _ (b : Board) (low start k : ℕ) (aside : List ℤ) (u : ℤ) (is : IsBo
 
     pub point_learnt : IsLearnt (take at b.past.literals) (take level b.levels) clause u w
     point_learnt = record {
-        first = Contains-push aside u;
-        second = elim aim.second [
-          | inl (none, zero_level, same) ↦ subst (Contains clause) (sym same) (Contains-push aside u)
-          | inr put ↦ Contains-append_left aside (u ∷ []) w put
-        ];
-        unset = u_unset;
-        live = u_live;
-        others = others_false;
-        late = λ j h inside.
+      first = Contains-push aside u;
+      second = elim aim.second [
+        | inl (none, zero_level, same) ↦ subst (Contains clause) (sym same) (Contains-push aside u)
+        | inr put ↦ Contains-append_left aside (u ∷ []) w put
+      ];
+      unset = u_unset;
+      live = u_live;
+      others = others_false;
+      late = λ j h inside.
           let below : j < level = omega (arith, h, levels_part) in
           let rises : start_of b.levels j ≤ at = is.levels.rising j level (omega (arith, below)) aim.within in
           let there : Contains (take (start_of b.levels j) b.past.literals) (neg_ℤ w) =
-            subst (λ t. Contains t (neg_ℤ w)) (ap (λ s. take s (take at b.past.literals)) (start_part b.levels level j below) ∙ take-take (start_of b.levels j) at b.past.literals rises) inside in
+          subst (λ t. Contains t (neg_ℤ w)) (ap (λ s. take s (take at b.past.literals)) (start_part b.levels level j below) ∙ take-take (start_of b.levels j) at b.past.literals rises) inside in
           aim.late j below there;
-        one = λ same. elim aim.second [
-          | inl (none, zero_level, s) ↦ (ap (λ n. take n b.levels) zero_level, (λ m h. elim (Contains-push_cases aside u m h) [
+      one = λ same. elim aim.second [
+        | inl (none, zero_level, s) ↦ (
+          ap (λ n. take n b.levels) zero_level,
+          (λ m h. elim (Contains-push_cases aside u m h) [
             | inl old ↦ (let no : Contains [] m = subst (λ x. Contains x m) none old in absurd (omega (arith, no.1)))
             | inr t ↦ sym t
-          ]))
-          | inr put ↦ absurd (u_live (subst (λ x. Contains (take at b.past.literals) (neg_ℤ x)) (sym same) (false_part b.past.literals at w low_at (aim.below w put))))
-        ]
-      }
+          ]),
+        )
+        | inr put ↦ absurd (u_live (subst (λ x. Contains (take at b.past.literals) (neg_ℤ x)) (sym same) (false_part b.past.literals at w low_at (aim.below w put))))
+      ];
+    }

@@ -26,7 +26,15 @@ pub struct Bounds {
 
 /// Marks the variable of a literal that is false, unless it is the one to be left out, and puts it aside where it became false below the present level. It answers
 /// how many literals of the present level were marked.
-fn mark_one(watch: &Watch, marks: &mut Marks, order: &mut Order, at: Bounds, literal: Lit, but: Lit, aside: &mut Aside) -> Result<u64, AllocError>
+fn mark_one(
+    watch: &Watch,
+    marks: &mut Marks,
+    order: &mut Order,
+    at: Bounds,
+    literal: Lit,
+    but: Lit,
+    aside: &mut Aside,
+) -> Result<u64, AllocError>
     requires false_one { literal ≢ but → Contains watch.now.past.literals (neg_ℤ literal) }
     requires room { watch.now.variables < length marks.old }
     requires start { at.start ≤ length watch.now.past.literals }
@@ -61,7 +69,15 @@ fn mark_one(watch: &Watch, marks: &mut Marks, order: &mut Order, at: Bounds, lit
 
 /// Marks the variables of a clause's literals but one. The others are false. It answers how many literals of the present level
 /// were marked.
-fn mark_others(watch: &Watch, marks: &mut Marks, order: &mut Order, at: Bounds, clause: &[Lit], but: Lit, aside: &mut Aside) -> Result<u64, AllocError>
+fn mark_others(
+    watch: &Watch,
+    marks: &mut Marks,
+    order: &mut Order,
+    at: Bounds,
+    clause: &[Lit],
+    but: Lit,
+    aside: &mut Aside,
+) -> Result<u64, AllocError>
     requires false_ones { (m : ℤ) → Contains clause.now m → m ≢ but → Contains watch.now.past.literals (neg_ℤ m) }
     requires room { watch.now.variables < length marks.old }
     requires start { at.start ≤ length watch.now.past.literals }
@@ -118,7 +134,14 @@ fn last_open(watch: &Watch, marks: &Marks, start: usize, end: usize) -> usize
 }
 
 // Begins with the clause whose literals are all false.
-fn begin(watch: &Watch, marks: &mut Marks, order: &mut Order, at: Bounds, conflict: u64, aside: &mut Aside) -> Result<Traced, AllocError>
+fn begin(
+    watch: &Watch,
+    marks: &mut Marks,
+    order: &mut Order,
+    at: Bounds,
+    conflict: u64,
+    aside: &mut Aside,
+) -> Result<Traced, AllocError>
     requires level { IsPresent watch.now at.low at.start }
     requires conflict { conflict < length watch.now.clauses }
     requires false_ones { AreFalse watch.now.past.literals (slice_index_or watch.now.clauses conflict []) }
@@ -136,7 +159,14 @@ fn begin(watch: &Watch, marks: &mut Marks, order: &mut Order, at: Bounds, confli
 }
 
 // Takes the reason of the last open literal in its place, if it has one.
-fn resolve(watch: &Watch, marks: &mut Marks, order: &mut Order, at: Bounds, traced: Traced, aside: &mut Aside) -> Result<Option<Traced>, AllocError>
+fn resolve(
+    watch: &Watch,
+    marks: &mut Marks,
+    order: &mut Order,
+    at: Bounds,
+    traced: Traced,
+    aside: &mut Aside,
+) -> Result<Option<Traced>, AllocError>
     requires level { IsPresent watch.now at.low at.start }
     requires traced { IsTraced watch.now.clauses watch.now.past.literals at.low at.start traced.place marks.old aside.old.items }
     requires room { watch.now.variables < length marks.old }
@@ -151,7 +181,15 @@ fn resolve(watch: &Watch, marks: &mut Marks, order: &mut Order, at: Bounds, trac
         return Ok(None);
     }
     let but = watch.literal(traced.place);
-    let more = mark_others(watch, marks, order, at, watch.clause(reason - 1), but, aside)?;
+    let more = mark_others(
+        watch,
+        marks,
+        order,
+        at,
+        watch.clause(reason - 1),
+        but,
+        aside,
+    )?;
     let place = last_open(watch, marks, at.start, traced.place);
     let open = traced.open.saturating_sub(1).saturating_add(more);
     Ok(Some(Traced { place, open }))
@@ -174,7 +212,14 @@ fn is_point(watch: &Watch, marks: &Marks, at: Bounds, traced: Traced) -> bool
 
 /// Traces a conflict back to the first point of the present level through which it goes, and puts the literals of lower levels
 /// aside. It answers the place of that point.
-pub fn analyse(watch: &Watch, marks: &mut Marks, order: &mut Order, at: Bounds, conflict: u64, aside: &mut Aside) -> Result<usize, AllocError>
+pub fn analyse(
+    watch: &Watch,
+    marks: &mut Marks,
+    order: &mut Order,
+    at: Bounds,
+    conflict: u64,
+    aside: &mut Aside,
+) -> Result<usize, AllocError>
     requires level { IsPresent watch.now at.low at.start }
     requires conflict { conflict < length watch.now.clauses }
     requires false_ones { AreFalse watch.now.past.literals (slice_index_or watch.now.clauses conflict []) }

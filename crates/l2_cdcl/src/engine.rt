@@ -244,7 +244,14 @@ impl Engine {
             low: self.watch.start_of(0),
             start: self.watch.start_of(level - 1),
         };
-        let point = analyse(&self.watch, &mut self.marks, &mut self.order, at, conflict, &mut aside)?;
+        let point = analyse(
+            &self.watch,
+            &mut self.marks,
+            &mut self.order,
+            at,
+            conflict,
+            &mut aside,
+        )?;
         let u = self.watch.literal(point).negated();
         let target = aim(&self.watch, at.start, aside.as_slice(), u);
         aside.push(u)?;

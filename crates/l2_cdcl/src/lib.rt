@@ -10,6 +10,8 @@ mod order;
 mod solve;
 mod solver;
 mod target;
+#[cfg(test)]
+mod tests;
 
 pub use answer::{Answer, Core};
 pub use solver::Solver;

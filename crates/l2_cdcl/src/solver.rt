@@ -31,7 +31,10 @@ impl Solver {
         ensures added { result.added ≡ [] }
         ensures learnt { result.learnt ≡ [] }
     {
-        Solver { alloc, engine: None }
+        Solver {
+            alloc,
+            engine: None,
+        }
     }
 
     // Takes the engine out, or makes one.

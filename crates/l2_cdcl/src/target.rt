@@ -77,7 +77,10 @@ pub fn aim(watch: &Watch, start: usize, aside: &[Lit], u: Lit) -> Target
 {
     watch.facts();
     if aside.is_empty() {
-        return Target { level: 0, second: u };
+        return Target {
+            level: 0,
+            second: u,
+        };
     }
     let last = last_fallen(watch, aside);
     Target {

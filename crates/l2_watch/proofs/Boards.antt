@@ -1,16 +1,16 @@
 -- What a board keeps as it grows, goes back and learns.
-use Rattle.std.proofs.Common.{add-one, ◌≡◌, ◌≢◌, ◌⊎◌, inl, inr, ℕ, suc, zero, ◌+◌, ◌-◌, ◌*◌, ◌^◌, ◌<◌, ◌≤◌, List, ◌++◌, [], ◌∷◌, take, length, get_or, set, refl, sym, ap, ◌∙◌, subst, arith, Bool, true, false}
+use Rattle.std.proofs.Common.{add-one, ◌≡◌, ◌≢◌, ◌⊎◌, inl, inr, ℕ, suc, zero, ◌+◌, ◌*◌, ◌^◌, ◌<◌, ◌≤◌, List, ◌++◌, [], ◌∷◌, take, length, get_or, set, refl, sym, ap, ◌∙◌, subst, arith, Bool, true, false}
 use Rattle.std.specs.Prelude.{ℤ, pos, neg_ℤ, nat_abs, Contains}
 use Rattle.std.proofs.lemmas.Bool.{cases_lt, cases_eq}
-use Rattle.std.proofs.lemmas.List.{get_or_append_left, get_or_push, get_or_default, length_push, get_or-take, take-take, take-append-le, take_all, length-take-le, nil_from_length}
+use Rattle.std.proofs.lemmas.List.{get_or_append_left, get_or_push, get_or_default, length_push, get_or-take, take-take, take-append-le, take_all, length-take-le}
 use Rattle.std.proofs.lemmas.List.Elements.{Contains-append_left, Contains-push, Contains-push_cases}
 use Rattle.l2_cnf.specs.Lit.{code_of}
 use Rattle.l2_cnf.specs.Trail.{AreOver, AreApart}
-use Rattle.l2_cnf.proofs.Laws.{nat_abs-neg_ℤ, same_variable}
+use Rattle.l2_cnf.proofs.Laws.{nat_abs-neg_ℤ}
 use Rattle.l2_watch.specs.Past.{Past, IsReason, IsImplied, IsGrown}
 use Rattle.l2_watch.specs.Watch.{IsConsistent, IsPair, IsGuarded, IsClosed}
-use Rattle.l2_watch.specs.Visit.{pair_of, list_of, ArePairs, AreFound, AreListed, AreAllFound, AreGuarded, AreMore, KeepsParts, IsRaised}
-use Rattle.l2_watch.specs.Board.{Board, IsBoard, start_of, decision_of, AreLevels, HasCause, AreCaused, AreStored, AreWatched, IsKept, IsDecided, IsLearnt}
+use Rattle.l2_watch.specs.Visit.{pair_of, list_of, ArePairs, AreFound, AreListed, AreGuarded, AreMore, KeepsParts, IsRaised}
+use Rattle.l2_watch.specs.Board.{Board, IsBoard, start_of, decision_of, AreLevels, HasCause, AreStored, IsKept, IsLearnt}
 use Rattle.l2_watch.proofs.Closed.{guards_close}
 use Rattle.l2_watch.proofs.Moves.{Contains-take, guard_more, code_within}
 use Rattle.l2_watch.proofs.Pasts.{IsReason-push, IsReason-same, part_same, grown_more, grown_part}
@@ -60,36 +60,36 @@ IsBoard-from b pairs lists kept most over apart count =
       levels = kept.opened;
       caused = kept.caused;
       before = λ ready j h.
-        let w = kept.watched ready in
-        stored_closed b.clauses pairs (take (start_of b.levels j) b.past.literals) kept.stored.count (full_pair b.clauses b.variables pairs lists kept.stored w.full)
+          let w = kept.watched ready in
+          stored_closed b.clauses pairs (take (start_of b.levels j) b.past.literals) kept.stored.count (full_pair b.clauses b.variables pairs lists kept.stored w.full)
           (part_consistent b.past.literals (start_of b.levels j) (kept.opened.within j h) consistent) (w.parts j h);
       closed = λ ready e.
-        let w = kept.watched ready in
-        let all : take b.seen b.past.literals ≡ b.past.literals = take_all b.seen b.past.literals (omega arith) in
-        stored_closed b.clauses pairs b.past.literals kept.stored.count (full_pair b.clauses b.variables pairs lists kept.stored w.full) consistent (subst (λ t. AreGuarded pairs t b.past.literals) all w.guarded)
+          let w = kept.watched ready in
+          let all : take b.seen b.past.literals ≡ b.past.literals = take_all b.seen b.past.literals (omega arith) in
+          stored_closed b.clauses pairs b.past.literals kept.stored.count (full_pair b.clauses b.variables pairs lists kept.stored w.full) consistent (subst (λ t. AreGuarded pairs t b.past.literals) all w.guarded);
     }
 
 -- the lists have more
 pub AreStored-more : (clauses : List (List ℤ)) (n : ℕ) (pairs : List (ℤ × ℤ)) (lists lists' : List (List ℕ)) → AreStored clauses n pairs lists → AreMore lists lists' → length lists ≤ length lists' → AreStored clauses n pairs lists'
 AreStored-more clauses n pairs lists lists' stored more longer = record {
-    count = stored.count;
-    over = stored.over;
-    pair = stored.pair;
-    found = record { first = λ r h. more (pair_of pairs r).0 r (stored.found.first r h); second = λ r h. more (pair_of pairs r).1 r (stored.found.second r h) };
-    room = omega (arith, stored.room);
-    some = stored.some;
-    small = stored.small
-  }
+  count = stored.count;
+  over = stored.over;
+  pair = stored.pair;
+  found = record { first = λ r h. more (pair_of pairs r).0 r (stored.found.first r h); second = λ r h. more (pair_of pairs r).1 r (stored.found.second r h) };
+  room = omega (arith, stored.room);
+  some = stored.some;
+  small = stored.small;
+}
 
 pub IsKept-more : (clauses : List (List ℤ)) (n : ℕ) (pairs : List (ℤ × ℤ)) (lists lists' : List (List ℕ)) (past : Past) (levels : List (ℕ × ℤ)) (seen : ℕ) (ready : Bool) → IsKept clauses n pairs lists past levels seen ready → AreMore lists lists' → length lists ≤ length lists' → IsKept clauses n pairs lists' past levels seen ready
 IsKept-more clauses n pairs lists lists' past levels seen ready kept more longer = record {
-    stored = AreStored-more clauses n pairs lists lists' kept.stored more longer;
-    within = kept.within;
-    looked = kept.looked;
-    opened = kept.opened;
-    caused = kept.caused;
-    watched = kept.watched
-  }
+  stored = AreStored-more clauses n pairs lists lists' kept.stored more longer;
+  within = kept.within;
+  looked = kept.looked;
+  opened = kept.opened;
+  caused = kept.caused;
+  watched = kept.watched;
+}
 
 -- more variables
 pub IsKept-cover : (clauses : List (List ℤ)) (n m : ℕ) (pairs : List (ℤ × ℤ)) (lists lists' : List (List ℕ)) (past : Past) (levels : List (ℕ × ℤ)) (seen : ℕ) (ready : Bool) → IsKept clauses n pairs lists past levels seen ready → AreMore lists lists' → length lists ≤ length lists' → n ≤ m → m < 2 ^ 62 → 2 * m + 2 ≤ length lists' → ready ≡ false → IsKept clauses m pairs lists' past levels seen ready
@@ -101,7 +101,7 @@ IsKept-cover clauses n m pairs lists lists' past levels seen ready kept more lon
       looked = kept.looked;
       opened = kept.opened;
       caused = kept.caused;
-      watched = λ is. absurd (let t : true ≡ false = sym is ∙ idle in cc)
+      watched = λ is. absurd (let t : true ≡ false = sym is ∙ idle in cc);
     }
 
 -- one more clause, with its pair
@@ -119,28 +119,28 @@ AreStored-attach clauses n pairs lists lists' clause p stored over is more same 
       pair = λ r h. elim (cases_lt r (length clauses)) [
         | inl b ↦ rw (old_clause r b, old_pair r (omega (arith, stored.count, b))) (stored.pair r b)
         | inr b ↦
-          let e : r ≡ length clauses = omega (arith, h, c) in
-          rw (new_clause r e, new_pair r (omega (arith, stored.count, e))) is
+            let e : r ≡ length clauses = omega (arith, h, c) in
+            rw (new_clause r e, new_pair r (omega (arith, stored.count, e))) is
       ];
       found = record {
         first = λ r h. elim (cases_lt r (length pairs)) [
           | inl b ↦ rw (old_pair r b) (more (pair_of pairs r).0 r (stored.found.first r b))
           | inr b ↦
-            let e : r ≡ length pairs = omega (arith, h, d) in
-            let f : r ≡ length clauses = omega (arith, stored.count) in
-            rw (new_pair r e, f) first
+              let e : r ≡ length pairs = omega (arith, h, d) in
+              let f : r ≡ length clauses = omega (arith, stored.count) in
+              rw (new_pair r e, f) first
         ];
         second = λ r h. elim (cases_lt r (length pairs)) [
           | inl b ↦ rw (old_pair r b) (more (pair_of pairs r).1 r (stored.found.second r b))
           | inr b ↦
-            let e : r ≡ length pairs = omega (arith, h, d) in
-            let f : r ≡ length clauses = omega (arith, stored.count) in
-            rw (new_pair r e, f) second
-        ]
+              let e : r ≡ length pairs = omega (arith, h, d) in
+              let f : r ≡ length clauses = omega (arith, stored.count) in
+              rw (new_pair r e, f) second
+        ];
       };
       room = omega (arith, stored.room, same);
       some = stored.some;
-      small = stored.small
+      small = stored.small;
     }
 
 -- a cause stays as clauses, levels and literals are added
@@ -162,11 +162,11 @@ take_push xs x b h = take-append-le b xs (x ∷ []) h
 -- one more literal behind
 pub AreLevels-push : (literals : List ℤ) (levels : List (ℕ × ℤ)) (l : ℤ) → AreLevels literals levels → AreLevels (literals ++ l ∷ []) levels
 AreLevels-push literals levels l are = record {
-    within = λ j h. omega (arith, are.within j h, length_push literals l);
-    rising = are.rising;
-    made = λ i j h k. rw (take_push literals l (start_of levels j) (are.within j k)) (are.made i j h k);
-    held = λ i h. Contains-append_left literals (l ∷ []) (decision_of levels i) (are.held i h)
-  }
+  within = λ j h. omega (arith, are.within j h, length_push literals l);
+  rising = are.rising;
+  made = λ i j h k. rw (take_push literals l (start_of levels j) (are.within j k)) (are.made i j h k);
+  held = λ i h. Contains-append_left literals (l ∷ []) (decision_of levels i) (are.held i h);
+}
 
 -- a literal that a clause implied has a cause
 pub implied_cause : (clauses : List (List ℤ)) (literals : List ℤ) (levels : List (ℕ × ℤ)) (k reason : ℕ) → IsImplied clauses literals k reason → HasCause clauses literals levels k reason
@@ -179,11 +179,11 @@ part_of old new b e h = sym (take-take b (length old) new h) ∙ ap (take b) e
 -- levels as the literals grow
 pub AreLevels-longer : (old new : List ℤ) (levels : List (ℕ × ℤ)) → AreLevels old levels → take (length old) new ≡ old → length old ≤ length new → ((m : ℤ) → Contains old m → Contains new m) → AreLevels new levels
 AreLevels-longer old new levels are same longer more = record {
-    within = λ j h. omega (arith, are.within j h, longer);
-    rising = are.rising;
-    made = λ i j h k. rw (part_of old new (start_of levels j) same (are.within j k)) (are.made i j h k);
-    held = λ i h. more (decision_of levels i) (are.held i h)
-  }
+  within = λ j h. omega (arith, are.within j h, longer);
+  rising = are.rising;
+  made = λ i j h k. rw (part_of old new (start_of levels j) same (are.within j k)) (are.made i j h k);
+  held = λ i h. more (decision_of levels i) (are.held i h);
+}
 
 no_level : (j : ℕ) → j < length {A = ℕ × ℤ} [] → ⊥
 no_level j h = omega (arith, h)
@@ -191,11 +191,11 @@ no_level j h = omega (arith, h)
 -- no level
 pub AreLevels-none : (literals : List ℤ) → AreLevels literals []
 AreLevels-none literals = record {
-    within = λ j h. absurd (no_level j h);
-    rising = λ i j h k. absurd (no_level j k);
-    made = λ i j h k. absurd (no_level j k);
-    held = λ i h. absurd (no_level i h)
-  }
+  within = λ j h. absurd (no_level j h);
+  rising = λ i j h k. absurd (no_level j k);
+  made = λ i j h k. absurd (no_level j k);
+  held = λ i h. absurd (no_level i h);
+}
 
 -- the levels of a longer list and of a part
 start_before : (levels : List (ℕ × ℤ)) (x : ℕ × ℤ) (j : ℕ) → j < length levels → start_of (levels ++ x ∷ []) j ≡ start_of levels j
@@ -229,23 +229,23 @@ AreLevels-open old new levels l are same longer more there =
       rising = λ i j h k. elim (cases_lt j (length levels)) [
         | inl b ↦ (let a : i < length levels = omega (arith, h, b) in omega (arith, start_before levels x i a, start_before levels x j b, are.rising i j h b))
         | inr b ↦
-          let e : j ≡ length levels = omega (arith, k, c) in
-          elim (cases_lt i (length levels)) [
-            | inl a ↦ omega (arith, start_before levels x i a, start_here levels x j e, are.within i a)
-            | inr a ↦ (let f : i ≡ length levels = omega (arith, h, k, c) in omega (arith, start_here levels x i f, start_here levels x j e))
-          ]
+            let e : j ≡ length levels = omega (arith, k, c) in
+            elim (cases_lt i (length levels)) [
+              | inl a ↦ omega (arith, start_before levels x i a, start_here levels x j e, are.within i a)
+              | inr a ↦ (let f : i ≡ length levels = omega (arith, h, k, c) in omega (arith, start_here levels x i f, start_here levels x j e))
+            ]
       ];
       made = λ i j h k. elim (cases_lt j (length levels)) [
         | inl b ↦ (let a : i < length levels = omega (arith, h, b) in rw (decision_before levels x i a, start_before levels x j b, part_of old new (start_of levels j) same (are.within j b)) (are.made i j h b))
         | inr b ↦
-          let e : j ≡ length levels = omega (arith, k, c) in
-          let a : i < length levels = omega (arith, h, e) in
-          rw (decision_before levels x i a, start_here levels x j e, same) (are.held i a)
+            let e : j ≡ length levels = omega (arith, k, c) in
+            let a : i < length levels = omega (arith, h, e) in
+            rw (decision_before levels x i a, start_here levels x j e, same) (are.held i a)
       ];
       held = λ i h. elim (cases_lt i (length levels)) [
         | inl b ↦ rw (decision_before levels x i b) (more (decision_of levels i) (are.held i b))
         | inr b ↦ (let e : i ≡ length levels = omega (arith, h, c) in rw (decision_here levels x i e) there)
-      ]
+      ];
     }
 
 -- levels after the way back
@@ -257,14 +257,14 @@ AreLevels-back literals levels level are h =
     record {
       within = λ j k. (let b : j < level = omega (arith, k, c) in omega (arith, start_part levels level j b, n, are.rising j level (omega (arith, b)) h));
       rising = λ i j k l.
-        let b : j < level = omega (arith, l, c) in
-        let a : i < level = omega (arith, k, b) in
-        omega (arith, start_part levels level i a, start_part levels level j b, are.rising i j k (omega (arith, b, h)));
+          let b : j < level = omega (arith, l, c) in
+          let a : i < level = omega (arith, k, b) in
+          omega (arith, start_part levels level i a, start_part levels level j b, are.rising i j k (omega (arith, b, h)));
       made = λ i j k l.
-        let b : j < level = omega (arith, l, c) in
-        let a : i < level = omega (arith, k, b) in
-        rw (decision_part levels level i a, start_part levels level j b, take-take (start_of levels j) s literals (are.rising j level (omega (arith, b)) h)) (are.made i j k (omega (arith, b, h)));
-      held = λ i k. (let b : i < level = omega (arith, k, c) in rw (decision_part levels level i b) (are.made i level b h))
+          let b : j < level = omega (arith, l, c) in
+          let a : i < level = omega (arith, k, b) in
+          rw (decision_part levels level i a, start_part levels level j b, take-take (start_of levels j) s literals (are.rising j level (omega (arith, b)) h)) (are.made i j k (omega (arith, b, h)));
+      held = λ i k. (let b : i < level = omega (arith, k, c) in rw (decision_part levels level i b) (are.made i level b h));
     }
 
 -- a literal is decided
@@ -284,26 +284,26 @@ IsKept-decide clauses n pairs lists old new levels seen ready l kept e vars same
       opened = AreLevels-open old.literals new.literals levels l kept.opened same longer more there;
       caused = λ k h. elim (cases_lt k (length old.literals)) [
         | inl b ↦ subst (HasCause clauses new.literals (levels ++ x ∷ []) k) (sym (reasons k b))
-          (HasCause-same clauses clauses old.literals new.literals levels (levels ++ x ∷ []) k (get_or old.reasons k 0) (kept.caused k b) (omega arith) (λ r q. refl)
+            (HasCause-same clauses clauses old.literals new.literals levels (levels ++ x ∷ []) k (get_or old.reasons k 0) (kept.caused k b) (omega arith) (λ r q. refl)
             (λ j q. part_same (length old.literals) old.literals new.literals same j (omega (arith, q, b)))
             (λ j q at. (omega (arith, q, c), start_before levels x j q, decision_before levels x j q)))
         | inr b ↦
-          let add = extra k b h in
-          subst (HasCause clauses new.literals (levels ++ x ∷ []) k) (sym add.2)
+            let add = extra k b h in
+            subst (HasCause clauses new.literals (levels ++ x ∷ []) k) (sym add.2)
             (length levels, omega (arith, c), start_here levels x (length levels) refl ∙ sym add.0, decision_here levels x (length levels) refl ∙ sym add.1)
       ];
       watched = λ is.
-        let w = kept.watched is in
-        let all : take seen old.literals ≡ old.literals = take_all seen old.literals (omega (arith, e)) in
-        record {
-          full = w.full;
-          same = vars ∙ w.same;
-          guarded = λ r h. (let g = w.guarded r h in rw (part_of old.literals new.literals seen same (omega (arith, e))) (guard_more (take seen old.literals) old.literals new.literals (pair_of pairs r).0 (pair_of pairs r).1 more g));
-          parts = λ j h. elim (cases_lt j (length levels)) [
-            | inl b ↦ rw (start_before levels x j b, part_of old.literals new.literals (start_of levels j) same (kept.opened.within j b)) (w.parts j b)
-            | inr b ↦ (let s : j ≡ length levels = omega (arith, h, c) in rw (start_here levels x j s, same) (subst (λ t. AreGuarded pairs t old.literals) all w.guarded))
-          ]
-        }
+          let w = kept.watched is in
+          let all : take seen old.literals ≡ old.literals = take_all seen old.literals (omega (arith, e)) in
+          record {
+            full = w.full;
+            same = vars ∙ w.same;
+            guarded = λ r h. (let g = w.guarded r h in rw (part_of old.literals new.literals seen same (omega (arith, e))) (guard_more (take seen old.literals) old.literals new.literals (pair_of pairs r).0 (pair_of pairs r).1 more g));
+            parts = λ j h. elim (cases_lt j (length levels)) [
+              | inl b ↦ rw (start_before levels x j b, part_of old.literals new.literals (start_of levels j) same (kept.opened.within j b)) (w.parts j b)
+              | inr b ↦ (let s : j ≡ length levels = omega (arith, h, c) in rw (start_here levels x j s, same) (subst (λ t. AreGuarded pairs t old.literals) all w.guarded))
+            ];
+          };
     }
 
 -- the way back
@@ -322,22 +322,22 @@ IsKept-back clauses n pairs lists old new levels levels' seen ready level s kept
       looked = omega (arith, m);
       opened = rw (f, e, at) opened;
       caused = λ k b.
-        let k_low : k < s = omega (arith, b, m) in
-        let reason : get_or new.reasons k 0 ≡ get_or old.reasons k 0 = ap (λ x. get_or x k 0) g ∙ get_or-take s old.reasons k 0 k_low in
-        rw reason (HasCause-same clauses clauses old.literals new.literals levels levels' k (get_or old.reasons k 0) (kept.caused k (omega (arith, k_low, low))) (omega arith) (λ r q. refl)
+          let k_low : k < s = omega (arith, b, m) in
+          let reason : get_or new.reasons k 0 ≡ get_or old.reasons k 0 = ap (λ x. get_or x k 0) g ∙ get_or-take s old.reasons k 0 k_low in
+          rw reason (HasCause-same clauses clauses old.literals new.literals levels levels' k (get_or old.reasons k 0) (kept.caused k (omega (arith, k_low, low))) (omega arith) (λ r q. refl)
           (λ j q. ap (λ x. get_or x j (pos 0)) f ∙ get_or-take s old.literals j (pos 0) (omega (arith, q, k_low)))
           (λ j q there.
-            let below : j < level = elim (cases_lt j level) [ inl y ↦ y | inr y ↦ absurd (omega (arith, kept.opened.rising level j y q, there, k_low, at)) ] in
-            (omega (arith, below, c, ap length e), ap (λ x. start_of x j) e ∙ start_part levels level j below, ap (λ x. decision_of x j) e ∙ decision_part levels level j below)));
+          let below : j < level = elim (cases_lt j level) [ inl y ↦ y | inr y ↦ absurd (omega (arith, kept.opened.rising level j y q, there, k_low, at)) ] in
+          (omega (arith, below, c, ap length e), ap (λ x. start_of x j) e ∙ start_part levels level j below, ap (λ x. decision_of x j) e ∙ decision_part levels level j below)));
       watched = λ y. record {
         full = w.full;
         same = vars ∙ w.same;
         guarded = rw (f, take-take s s old.literals (omega arith), at) (w.parts level h);
         parts = λ j b.
-          let below : j < level = omega (arith, b, ap length e, c) in
-          let first : start_of levels' j ≡ start_of levels j = ap (λ x. start_of x j) e ∙ start_part levels level j below in
-          rw (first, f, take-take (start_of levels j) s old.literals (omega (arith, at, kept.opened.rising j level (omega (arith, below)) h))) (w.parts j (omega (arith, below, h)))
-      }
+            let below : j < level = omega (arith, b, ap length e, c) in
+            let first : start_of levels' j ≡ start_of levels j = ap (λ x. start_of x j) e ∙ start_part levels level j below in
+            rw (first, f, take-take (start_of levels j) s old.literals (omega (arith, at, kept.opened.rising j level (omega (arith, below)) h))) (w.parts j (omega (arith, below, h)));
+      };
     }
 
 -- a round of propagation
@@ -354,8 +354,8 @@ IsKept-grown clauses n pairs pairs' lists lists' old new levels seen seen' ready
       opened = AreLevels-longer old.literals new.literals levels kept.opened grown.literals grown.longer more;
       caused = λ k h. elim (cases_lt k (length old.literals)) [
         | inl b ↦
-          let reason : get_or new.reasons k 0 ≡ get_or old.reasons k 0 = sym (get_or-take (length old.literals) new.reasons k 0 b) ∙ ap (λ x. get_or x k 0) grown.reasons in
-          rw reason (HasCause-same clauses clauses old.literals new.literals levels levels k (get_or old.reasons k 0) (kept.caused k b) (omega arith) (λ r q. refl)
+            let reason : get_or new.reasons k 0 ≡ get_or old.reasons k 0 = sym (get_or-take (length old.literals) new.reasons k 0 b) ∙ ap (λ x. get_or x k 0) grown.reasons in
+            rw reason (HasCause-same clauses clauses old.literals new.literals levels levels k (get_or old.reasons k 0) (kept.caused k b) (omega arith) (λ r q. refl)
             (λ j q. part_same (length old.literals) old.literals new.literals grown.literals j (omega (arith, q, b))) (λ j q at. (q, refl, refl)))
         | inr b ↦ implied_cause clauses new.literals levels k (get_or new.reasons k 0) (grown.caused k b h)
       ];
@@ -363,8 +363,8 @@ IsKept-grown clauses n pairs pairs' lists lists' old new levels seen seen' ready
         full = w.full;
         same = grown.variables ∙ w.same;
         guarded = guarded;
-        parts = λ j h. rw (grown_part clauses old new (start_of levels j) grown (kept.opened.within j h)) (parts (start_of levels j) (kept.opened.within j h) (w.parts j h))
-      }
+        parts = λ j h. rw (grown_part clauses old new (start_of levels j) grown (kept.opened.within j h)) (parts (start_of levels j) (kept.opened.within j h) (w.parts j h));
+      };
     }
 
 -- the literals of the clauses that have one were made true
@@ -372,22 +372,22 @@ pub IsKept-raised : (clauses : List (List ℤ)) (n : ℕ) (pairs : List (ℤ × 
     → AreStored clauses n pairs lists → old.variables ≡ n → old.literals ≡ [] → levels ≡ [] → IsGrown clauses old new → (ready ≡ true → (r : ℕ) → r < length clauses → IsRaised (get_or clauses r []) new.literals (pair_of pairs r))
     → IsKept clauses n pairs lists new levels 0 ready
 IsKept-raised clauses n pairs lists old new levels ready stored vars empty none grown raised = record {
-    stored = stored;
-    within = omega (arith, vars, grown.variables);
-    looked = omega arith;
-    opened = rw none (AreLevels-none new.literals);
-    caused = λ k h. implied_cause clauses new.literals levels k (get_or new.reasons k 0) (grown.caused k (omega (arith, ap length empty)) h);
-    watched = λ is. record {
-      full = λ r h. (raised is r h).0;
-      same = grown.variables ∙ vars;
-      guarded = λ r h. record {
-        first = λ there. absurd (omega (arith, there.1));
-        second = λ there. absurd (omega (arith, there.1));
-        one = (raised is r (omega (arith, h, stored.count))).1
-      };
-      parts = λ j h. absurd (omega (arith, h, ap length none))
-    }
-  }
+  stored = stored;
+  within = omega (arith, vars, grown.variables);
+  looked = omega arith;
+  opened = rw none (AreLevels-none new.literals);
+  caused = λ k h. implied_cause clauses new.literals levels k (get_or new.reasons k 0) (grown.caused k (omega (arith, ap length empty)) h);
+  watched = λ is. record {
+    full = λ r h. (raised is r h).0;
+    same = grown.variables ∙ vars;
+    guarded = λ r h. record {
+      first = λ there. absurd (omega (arith, there.1));
+      second = λ there. absurd (omega (arith, there.1));
+      one = (raised is r (omega (arith, h, stored.count))).1;
+    };
+    parts = λ j h. absurd (omega (arith, h, ap length none));
+  };
+}
 
 -- a clause is learnt
 pub IsKept-learn : (clauses clauses' : List (List ℤ)) (n : ℕ) (pairs pairs' : List (ℤ × ℤ)) (lists lists' : List (List ℕ)) (old new : Past) (levels : List (ℕ × ℤ)) (seen : ℕ) (ready : Bool) (clause : List ℤ) (u w : ℤ)
@@ -412,52 +412,52 @@ IsKept-learn clauses clauses' n pairs pairs' lists lists' old new levels seen re
       opened = AreLevels-longer old.literals new.literals levels kept.opened same (omega (arith, k)) more;
       caused = λ i h. elim (cases_lt i (length old.literals)) [
         | inl b ↦
-          let reason : get_or new.reasons i 0 ≡ get_or old.reasons i 0 = ap (λ x. get_or x i 0) re ∙ get_or_append_left old.reasons ((length clauses + 1) ∷ []) 0 i (omega (arith, b, count)) in
-          rw reason (HasCause-same clauses clauses' old.literals new.literals levels levels i (get_or old.reasons i 0) (kept.caused i b) (omega (arith, c)) old_clause
+            let reason : get_or new.reasons i 0 ≡ get_or old.reasons i 0 = ap (λ x. get_or x i 0) re ∙ get_or_append_left old.reasons ((length clauses + 1) ∷ []) 0 i (omega (arith, b, count)) in
+            rw reason (HasCause-same clauses clauses' old.literals new.literals levels levels i (get_or old.reasons i 0) (kept.caused i b) (omega (arith, c)) old_clause
             (λ j q. part_same (length old.literals) old.literals new.literals same j (omega (arith, q, b))) (λ j q at. (q, refl, refl)))
         | inr b ↦
-          let at : i ≡ length old.literals = omega (arith, h, k) in
-          let reason : get_or new.reasons i 0 ≡ suc (length clauses) = ap (λ x. get_or x i 0) re ∙ get_or_push old.reasons (length clauses + 1) 0 i (omega (arith, at, count)) ∙ add-one (length clauses) in
-          let it : IsReason (old.literals ++ u ∷ []) (length old.literals) clause = IsReason-push old.literals clause u is.first is.others in
-          let here : IsReason new.literals i (get_or clauses' (length clauses) []) = rw (new_clause (length clauses) refl, le, at) it in
-          subst (HasCause clauses' new.literals levels i) (sym reason) (omega (arith, c), here)
+            let at : i ≡ length old.literals = omega (arith, h, k) in
+            let reason : get_or new.reasons i 0 ≡ suc (length clauses) = ap (λ x. get_or x i 0) re ∙ get_or_push old.reasons (length clauses + 1) 0 i (omega (arith, at, count)) ∙ add-one (length clauses) in
+            let it : IsReason (old.literals ++ u ∷ []) (length old.literals) clause = IsReason-push old.literals clause u is.first is.others in
+            let here : IsReason new.literals i (get_or clauses' (length clauses) []) = rw (new_clause (length clauses) refl, le, at) it in
+            subst (HasCause clauses' new.literals levels i) (sym reason) (omega (arith, c), here)
       ];
       watched = λ y.
-        let v = kept.watched y in
-        let all : take seen old.literals ≡ old.literals = take_all seen old.literals (omega (arith, e)) in
-        let seen_new : take seen new.literals ≡ old.literals = part_of old.literals new.literals seen same (omega (arith, e)) ∙ all in
-        record {
-          full = λ r h. elim (cases_lt r (length clauses)) [
-            | inl b ↦ (let f = v.full r b in λ z. f (sym (old_clause r b) ∙ z))
-            | inr b ↦ λ z.
-              let at : r ≡ length clauses = omega (arith, h, c) in
-              let none : clause ≡ [] = sym (new_clause r at) ∙ z in
-              let no : Contains [] u = subst (λ x. Contains x u) none is.first in
-              omega (arith, no.1)
-          ];
-          same = vars ∙ v.same;
-          guarded = λ r h. elim (cases_lt r (length pairs)) [
-            | inl b ↦ rw (old_pair r b, seen_new) (guard_more old.literals old.literals new.literals (pair_of pairs r).0 (pair_of pairs r).1 more (subst (λ t. AreGuarded pairs t old.literals) all v.guarded r b))
-            | inr b ↦
-              let at : r ≡ length pairs = omega (arith, h, d) in
-              let it : IsGuarded old.literals new.literals u w = record { first = λ x. absurd (is.live x); second = λ x. there; one = λ x. there } in
-              rw (new_pair r at, seen_new) it
-          ];
-          parts = λ j h.
-            let low = kept.opened.within j h in
-            let part : take (start_of levels j) new.literals ≡ take (start_of levels j) old.literals = part_of old.literals new.literals (start_of levels j) same low in
-            subst (λ t. AreGuarded pairs' t t) (sym part) (λ r b. elim (cases_lt r (length pairs)) [
-              | inl x ↦ rw (old_pair r x) (v.parts j h r x)
-              | inr x ↦
-                let at : r ≡ length pairs = omega (arith, b, d) in
-                let it : IsGuarded (take (start_of levels j) old.literals) (take (start_of levels j) old.literals) u w = record {
-                  first = λ q. absurd (is.live (Contains-take (start_of levels j) old.literals (neg_ℤ u) low q));
-                  second = λ q. absurd (is.late j h q);
-                  one = λ q. absurd (omega (arith, h, ap length (is.one q).0))
-                } in
-                rw (new_pair r at) it
-            ])
-        }
+          let v = kept.watched y in
+          let all : take seen old.literals ≡ old.literals = take_all seen old.literals (omega (arith, e)) in
+          let seen_new : take seen new.literals ≡ old.literals = part_of old.literals new.literals seen same (omega (arith, e)) ∙ all in
+          record {
+            full = λ r h. elim (cases_lt r (length clauses)) [
+              | inl b ↦ (let f = v.full r b in λ z. f (sym (old_clause r b) ∙ z))
+              | inr b ↦ λ z.
+                  let at : r ≡ length clauses = omega (arith, h, c) in
+                  let none : clause ≡ [] = sym (new_clause r at) ∙ z in
+                  let no : Contains [] u = subst (λ x. Contains x u) none is.first in
+                  omega (arith, no.1)
+            ];
+            same = vars ∙ v.same;
+            guarded = λ r h. elim (cases_lt r (length pairs)) [
+              | inl b ↦ rw (old_pair r b, seen_new) (guard_more old.literals old.literals new.literals (pair_of pairs r).0 (pair_of pairs r).1 more (subst (λ t. AreGuarded pairs t old.literals) all v.guarded r b))
+              | inr b ↦
+                  let at : r ≡ length pairs = omega (arith, h, d) in
+                  let it : IsGuarded old.literals new.literals u w = record { first = λ x. absurd (is.live x); second = λ x. there; one = λ x. there } in
+                  rw (new_pair r at, seen_new) it
+            ];
+            parts = λ j h.
+                let low = kept.opened.within j h in
+                let part : take (start_of levels j) new.literals ≡ take (start_of levels j) old.literals = part_of old.literals new.literals (start_of levels j) same low in
+                subst (λ t. AreGuarded pairs' t t) (sym part) (λ r b. elim (cases_lt r (length pairs)) [
+                  | inl x ↦ rw (old_pair r x) (v.parts j h r x)
+                  | inr x ↦
+                      let at : r ≡ length pairs = omega (arith, b, d) in
+                      let it : IsGuarded (take (start_of levels j) old.literals) (take (start_of levels j) old.literals) u w = record {
+                        first = λ q. absurd (is.live (Contains-take (start_of levels j) old.literals (neg_ℤ u) low q));
+                        second = λ q. absurd (is.late j h q);
+                        one = λ q. absurd (omega (arith, h, ap length (is.one q).0));
+                      } in
+                      rw (new_pair r at) it
+                ]);
+          };
     }
 
 -- the clause that is learnt has its pair
@@ -468,14 +468,14 @@ learnt_pair literals levels clause u w is = record { first = is.first; second = 
 pub IsKept-attach : (clauses clauses' : List (List ℤ)) (n : ℕ) (pairs pairs' : List (ℤ × ℤ)) (lists lists' : List (List ℕ)) (past : Past) (levels : List (ℕ × ℤ)) (seen : ℕ) (ready : Bool) (clause : List ℤ)
     → IsKept clauses n pairs lists past levels seen ready → ready ≡ false → AreStored clauses' n pairs' lists' → clauses' ≡ clauses ++ clause ∷ [] → IsKept clauses' n pairs' lists' past levels seen ready
 IsKept-attach clauses clauses' n pairs pairs' lists lists' past levels seen ready clause kept idle stored ce = record {
-    stored = stored;
-    within = kept.within;
-    looked = kept.looked;
-    opened = kept.opened;
-    caused = λ i h. HasCause-same clauses clauses' past.literals past.literals levels levels i (get_or past.reasons i 0) (kept.caused i h) (omega (arith, ap length ce, length_push clauses clause))
+  stored = stored;
+  within = kept.within;
+  looked = kept.looked;
+  opened = kept.opened;
+  caused = λ i h. HasCause-same clauses clauses' past.literals past.literals levels levels i (get_or past.reasons i 0) (kept.caused i h) (omega (arith, ap length ce, length_push clauses clause))
       (λ r q. ap (λ x. get_or x r []) ce ∙ get_or_append_left clauses (clause ∷ []) [] r q) (λ j q. refl) (λ j q at. (q, refl, refl));
-    watched = λ is. absurd (let t : true ≡ false = sym is ∙ idle in cc)
-  }
+  watched = λ is. absurd (let t : true ≡ false = sym is ∙ idle in cc);
+}
 
 -- the literals that watch a clause are over its variables
 pub pair_over : (n : ℕ) (clause : List ℤ) (a b : ℤ) → 1 ≤ n → AreOver n clause → ((clause ≡ []) ⊎ IsPair clause a b) → (clause ≡ [] → (a ≡ pos 1) × (b ≡ pos 1)) → (nat_abs a ≤ n) × (nat_abs b ≤ n)
@@ -495,4 +495,4 @@ pub kept_round : (clauses : List (List ℤ)) (n : ℕ) (pairs pairs' : List (ℤ
 kept_round clauses n pairs pairs' lists lists' list old new levels seen seen' ready a kept is over same grown are found listed parts looked guarded =
     let vars = (kept.watched is).same in
     IsKept-grown clauses n pairs pairs' lists (set lists' (code_of a) list) old new levels seen seen' ready kept is
-      (stored_round clauses n pairs pairs' lists lists' a list kept.stored (subst (λ k. ArePairs clauses k pairs') vars are) same over found listed) grown parts looked guarded
+    (stored_round clauses n pairs pairs' lists lists' a list kept.stored (subst (λ k. ArePairs clauses k pairs') vars are) same over found listed) grown parts looked guarded

@@ -1,16 +1,16 @@
 -- What a closed trail shows: nothing outside it is reached, and what is learnt isn't absorbed.
-use Rattle.std.proofs.Common.{◌≡◌, ◌≢◌, ◌⊎◌, inl, inr, ℕ, suc, zero, ◌+◌, ◌-◌, ◌*◌, ◌<◌, ◌≤◌, List, ◌++◌, [], ◌∷◌, length, get_or, map, take, refl, sym, ap, ◌∙◌, subst, arith}
-use Rattle.std.specs.Prelude.{ℤ, nat_abs, neg_ℤ, Contains}
+use Rattle.std.proofs.Common.{◌≡◌, ◌≢◌, ◌⊎◌, inl, inr, ◌<◌, List, length, map, sym, ap, ◌∙◌, subst, arith}
+use Rattle.std.specs.Prelude.{ℤ, neg_ℤ, Contains}
 use lib.IntN.{neg_ℤ-neg_ℤ}
 use Rattle.std.proofs.lemmas.List.{length-map, get_or-map}
 use Rattle.l2_cnf.specs.Logic.{Propagates, assumed, unit, Conflicts, Negation, NegationBut, Follows, IsAbsorbed}
-use Rattle.l2_cnf.proofs.Laws.{same_or_not, more, more_conflicts}
+use Rattle.l2_cnf.proofs.Laws.{same_or_not, more_conflicts}
 use Rattle.l2_watch.specs.Watch.{IsConsistent, IsPair, IsGuarded, IsClosed, Refutes}
 
 -- watched pairs close a trail
 pub guards_close : (list : List (List ℤ)) (trail : List ℤ) → IsConsistent trail → ((clause : List ℤ) → Contains list clause → (a : ℤ) × (b : ℤ) × (IsPair clause a b) × (IsGuarded trail trail a b)) → IsClosed list trail
 guards_close list trail consistent guards = record {
-    unit = λ clause c l h others.
+  unit = λ clause c l h others.
       let g = guards clause c in
       let a : ℤ = g.0 in
       let b : ℤ = g.1 in
@@ -19,18 +19,18 @@ guards_close list trail consistent guards = record {
         | inr apart ↦ elim (same_or_not a l) [
           | inl e ↦ subst (Contains trail) e (g.3.second (others b g.2.second (λ s. apart (e ∙ sym s))))
           | inr ne ↦
-            let b_true : Contains trail b = g.3.first (others a g.2.first ne) in
-            elim (same_or_not b l) [
-              | inl e ↦ subst (Contains trail) e b_true
-              | inr differ ↦ absurd (consistent b b_true (others b g.2.second differ))
-            ]
+              let b_true : Contains trail b = g.3.first (others a g.2.first ne) in
+              elim (same_or_not b l) [
+                | inl e ↦ subst (Contains trail) e b_true
+                | inr differ ↦ absurd (consistent b b_true (others b g.2.second differ))
+              ]
         ]
       ];
-    live = λ clause c all.
+  live = λ clause c all.
       let g = guards clause c in
       let b_true : Contains trail g.1 = g.3.first (all g.0 g.2.first) in
-      consistent g.1 b_true (all g.1 g.2.second)
-  }
+      consistent g.1 b_true (all g.1 g.2.second);
+}
 
 -- what is reached from inside a closed trail is inside
 pub stays_within : (list : List (List ℤ)) (trail : List ℤ) (given : ℤ → Type 0) → IsClosed list trail → ((m : ℤ) → given m → Contains trail m) → (l : ℤ) → Propagates list given l → Contains trail l
@@ -67,6 +67,6 @@ pub Refutes-follows : (list : List (List ℤ)) (clause : List ℤ) → Refutes l
 Refutes-follows list clause refutes =
     let there : (m : ℤ) → Contains clause m → Contains (map neg_ℤ clause) (neg_ℤ m) = λ m k. (k.0, omega (arith, k.1, length-map clause neg_ℤ), get_or-map neg_ℤ clause k.0 m (neg_ℤ m) k.1 ∙ ap neg_ℤ k.2) in
     let back : (m : ℤ) → Contains (map neg_ℤ clause) m → Contains clause (neg_ℤ m) = λ m k.
-      let within : k.0 < length clause = omega (arith, k.1, length-map clause neg_ℤ) in
-      (k.0, within, sym (neg_ℤ-neg_ℤ _) ∙ ap neg_ℤ (sym (get_or-map neg_ℤ clause k.0 (neg_ℤ m) m within) ∙ k.2)) in
+    let within : k.0 < length clause = omega (arith, k.1, length-map clause neg_ℤ) in
+    (k.0, within, sym (neg_ℤ-neg_ℤ _) ∙ ap neg_ℤ (sym (get_or-map neg_ℤ clause k.0 (neg_ℤ m) m within) ∙ k.2)) in
     more_conflicts list list (Contains (map neg_ℤ clause)) (Negation clause) (λ c k. k) (λ m k. assumed (back m k)) (refutes (map neg_ℤ clause) (λ m k. assumed (there m k)))

@@ -1,13 +1,11 @@
 -- One round of propagation: the list of a literal that became false is taken out, gone through and put back.
-use Rattle.std.proofs.Common.{◌≡◌, ◌≢◌, ◌⊎◌, inl, inr, ℕ, suc, zero, ◌+◌, ◌-◌, ◌<◌, ◌≤◌, List, ◌++◌, [], ◌∷◌, length, get_or, set, take, refl, sym, ap, ◌∙◌, subst, arith}
+use Rattle.std.proofs.Common.{◌≡◌, ◌≢◌, inl, inr, ℕ, ◌+◌, ◌<◌, ◌≤◌, List, ◌++◌, [], ◌∷◌, length, get_or, set, take, sym, ap, ◌∙◌, subst, arith}
 use Rattle.std.specs.Prelude.{ℤ, pos, nat_abs, neg_ℤ, Contains}
-use Rattle.std.proofs.lemmas.Bool.{cases_eq}
 use Rattle.std.proofs.lemmas.List.{get_or-set_same, get_or-set_other, take_more, length-set}
 use Rattle.std.proofs.lemmas.List.Elements.{Contains-push_cases}
 use lib.IntN.{neg_ℤ-neg_ℤ}
 use Rattle.l2_cnf.specs.Lit.{code_of}
 use Rattle.l2_cnf.proofs.Laws.{same_or_not}
-use Rattle.l2_watch.specs.Watch.{IsGuarded}
 use Rattle.l2_watch.specs.Visit.{list_of, pair_of, ArePairs, AreFound, AreAllFound, AreVisited, AreGuarded, AreListed}
 use Rattle.l2_watch.specs.Board.{AreStored}
 use Rattle.l2_watch.proofs.Moves.{code_of_injective, code_within}
@@ -21,15 +19,15 @@ found_without pairs lists a all =
     let same : (x : ℤ) → x ≢ a → list_of (set lists (code_of a) []) x ≡ list_of lists x = λ x ne. get_or-set_other lists (code_of a) (code_of x) [] [] (λ e. ne (code_of_injective x a e)) in
     record {
       first = λ r b ne. rw (same (pair_of pairs r).0 ne) (all.first r b);
-      second = λ r b ne. rw (same (pair_of pairs r).1 ne) (all.second r b)
+      second = λ r b ne. rw (same (pair_of pairs r).1 ne) (all.second r b);
     }
 
 -- its clauses are all still to come
 pub visited_none : (pairs : List (ℤ × ℤ)) (lists : List (List ℕ)) (trail : List ℤ) (a : ℤ) → AreAllFound pairs lists → AreVisited pairs trail a [] (list_of lists a)
 visited_none pairs lists trail a all = record {
-    first = λ r b e. inl (subst (λ x. Contains (list_of lists x) r) e (all.first r b));
-    second = λ r b e. inl (subst (λ x. Contains (list_of lists x) r) e (all.second r b))
-  }
+  first = λ r b e. inl (subst (λ x. Contains (list_of lists x) r) e (all.first r b));
+  second = λ r b e. inl (subst (λ x. Contains (list_of lists x) r) e (all.second r b));
+}
 
 -- with the list put back
 pub found_again : (pairs : List (ℤ × ℤ)) (lists : List (List ℕ)) (trail : List ℤ) (a : ℤ) (list : List ℕ) → code_of a < length lists → AreFound pairs lists a → AreVisited pairs trail a list [] → AreAllFound pairs (set lists (code_of a) list)
@@ -50,7 +48,7 @@ found_again pairs lists trail a list h found visited =
           | inr done ↦ (let l : list_of (set lists (code_of a) list) (pair_of pairs r).1 ≡ list = ap (list_of (set lists (code_of a) list)) e ∙ here in rw l done.0)
         ]
         | inr ne ↦ rw (there (pair_of pairs r).1 ne) (found.second r b ne)
-      ]
+      ];
     }
 
 -- one more literal was looked at
@@ -74,7 +72,7 @@ guarded_next pairs trail seen a list h is guarded visited r b =
           | inr done ↦ done.1
         ]
       ];
-      one = g.one
+      one = g.one;
     }
 
 -- with the list put back, also where it wasn't gone through to its end
@@ -90,7 +88,7 @@ found_listed pairs lists a list h found listed =
       second = λ r b. elim (same_or_not (pair_of pairs r).1 a) [
         | inl e ↦ (let l : list_of (set lists (code_of a) list) (pair_of pairs r).1 ≡ list = ap (list_of (set lists (code_of a) list)) e ∙ here in rw l (listed r b (inr e)))
         | inr ne ↦ rw (there (pair_of pairs r).1 ne) (found.second r b ne)
-      ]
+      ];
     }
 
 -- what is stored after a round
@@ -104,5 +102,5 @@ stored_round clauses n pairs pairs' lists lists' a list stored are same over fou
       found = found_listed pairs' lists' a list within found listed;
       room = omega (arith, stored.room, same, length-set lists' (code_of a) list);
       some = stored.some;
-      small = stored.small
+      small = stored.small;
     }

@@ -1,15 +1,14 @@
 -- What going through a list keeps.
-use Rattle.std.proofs.Common.{◌≡◌, ◌≢◌, ◌⊎◌, inl, inr, ℕ, suc, zero, ◌+◌, ◌-◌, ◌*◌, ◌<◌, ◌≤◌, List, ◌++◌, [], ◌∷◌, length, get_or, set, map, take, drop, refl, sym, ap, ◌∙◌, subst, arith}
+use Rattle.std.proofs.Common.{◌≡◌, ◌⊎◌, inl, inr, ℕ, suc, zero, ◌+◌, ◌<◌, ◌≤◌, List, ◌++◌, [], ◌∷◌, length, get_or, set, take, drop, refl, sym, ap, ◌∙◌, subst, arith}
 use Rattle.std.specs.Prelude.{ℤ, pos, negsuc, nat_abs, neg_ℤ, Contains}
 use Rattle.std.proofs.lemmas.Bool.{cases_eq}
 use Rattle.std.proofs.lemmas.List.{take-append-le, length_push, drop_more, take_more_set, drop-set-lt, length-drop, get_or_default, get_or-take, get_or-drop, length-take-le}
 use Rattle.std.proofs.lemmas.List.Elements.{Contains-append_left, Contains-push, Contains-push_cases, Contains-append_cases, Contains-append_right}
 use lib.IntN.{neg_ℤ-neg_ℤ}
 use Rattle.l2_cnf.specs.Trail.{AreOver}
-use Rattle.l2_cnf.proofs.Laws.{same_or_not}
 use Rattle.l2_watch.specs.Past.{Past, IsGrown}
 use Rattle.l2_watch.proofs.Pasts.{grown_part}
-use Rattle.l2_watch.specs.Watch.{IsConsistent, IsPair, IsGuarded}
+use Rattle.l2_watch.specs.Watch.{IsConsistent}
 use Rattle.l2_watch.specs.Visit.{pair_of, AreVisited, AreListed, AreGuarded, KeepsParts}
 use Rattle.l2_watch.specs.Handled.{Extends, IsHandled}
 use Rattle.l2_watch.specs.declared.visit.Step.{Step}
@@ -51,15 +50,15 @@ not_self (negsuc n) h e = cc
 pub extends_consistent : (n : ℕ) (clause old new : List ℤ) → AreOver n clause → IsConsistent old → Extends clause old new → IsConsistent new
 extends_consistent n clause old new over c (inl e) = rw e c
 extends_consistent n clause old new over c (inr (l, e, not_l, not_neg, h, _)) = rw e (λ m a b. elim (Contains-push_cases old l m a) [
-    | inl a_old ↦ elim (Contains-push_cases old l (neg_ℤ m) b) [
-      | inl b_old ↦ c m a_old b_old
-      | inr s ↦ not_neg (subst (Contains old) (sym (neg_ℤ-neg_ℤ m) ∙ ap neg_ℤ (sym s)) a_old)
-    ]
-    | inr s ↦ elim (Contains-push_cases old l (neg_ℤ m) b) [
-      | inl b_old ↦ not_neg (subst (λ x. Contains old (neg_ℤ x)) (sym s) b_old)
-      | inr t ↦ not_self l (over l h).0 (t ∙ ap neg_ℤ (sym s))
-    ]
-  ])
+  | inl a_old ↦ elim (Contains-push_cases old l (neg_ℤ m) b) [
+    | inl b_old ↦ c m a_old b_old
+    | inr s ↦ not_neg (subst (Contains old) (sym (neg_ℤ-neg_ℤ m) ∙ ap neg_ℤ (sym s)) a_old)
+  ]
+  | inr s ↦ elim (Contains-push_cases old l (neg_ℤ m) b) [
+    | inl b_old ↦ not_neg (subst (λ x. Contains old (neg_ℤ x)) (sym s) b_old)
+    | inr t ↦ not_self l (over l h).0 (t ∙ ap neg_ℤ (sym s))
+  ]
+])
 
 pub extends_seen : (clause old new : List ℤ) (q : ℕ) → q ≤ length old → Extends clause old new → (take q new ≡ take q old) × (q ≤ length new)
 extends_seen clause old new q h (inl e) = (ap (take q) e, rw e h)
@@ -88,7 +87,7 @@ visited_keeps clauses old new before after a xs i kept h k handled visited =
           | inr more ↦ inl more
         ]
         | inr old_one ↦ inr (Contains-append_left (take kept xs) (r ∷ []) q old_one.0, grows (pair_of before q).0 old_one.1)
-      ]
+      ];
     })
 
 -- a clause went to another list
@@ -101,37 +100,37 @@ visited_moved clauses old new before after a xs i kept h count handled visited =
       first = λ q b e. elim (cases_eq q r) [
         | inl s ↦ absurd (handled.3 (omega (arith, b, s, handled.1, count)) (subst (λ x. (pair_of after x).0 ≡ a) s e))
         | inr ne ↦
-          let same = handled.2 q ne in
-          elim (visited.first q (omega (arith, b, handled.1)) (sym (ap (λ p. p.0) same) ∙ e)) [
-            | inl there ↦ elim (here_or_later xs i q h there) [
-              | inl s ↦ absurd (ne (sym s))
-              | inr more ↦ inl more
+            let same = handled.2 q ne in
+            elim (visited.first q (omega (arith, b, handled.1)) (sym (ap (λ p. p.0) same) ∙ e)) [
+              | inl there ↦ elim (here_or_later xs i q h there) [
+                | inl s ↦ absurd (ne (sym s))
+                | inr more ↦ inl more
+              ]
+              | inr old_one ↦ inr (old_one.0, rw same old_one.1)
             ]
-            | inr old_one ↦ inr (old_one.0, rw same old_one.1)
-          ]
       ];
       second = λ q b e. elim (cases_eq q r) [
         | inl s ↦ absurd (handled.4 (omega (arith, b, s, handled.1, count)) (subst (λ x. (pair_of after x).1 ≡ a) s e))
         | inr ne ↦
-          let same = handled.2 q ne in
-          elim (visited.second q (omega (arith, b, handled.1)) (sym (ap (λ p. p.1) same) ∙ e)) [
-            | inl there ↦ elim (here_or_later xs i q h there) [
-              | inl s ↦ absurd (ne (sym s))
-              | inr more ↦ inl more
+            let same = handled.2 q ne in
+            elim (visited.second q (omega (arith, b, handled.1)) (sym (ap (λ p. p.1) same) ∙ e)) [
+              | inl there ↦ elim (here_or_later xs i q h there) [
+                | inl s ↦ absurd (ne (sym s))
+                | inr more ↦ inl more
+              ]
+              | inr old_one ↦ inr (old_one.0, rw same old_one.1)
             ]
-            | inr old_one ↦ inr (old_one.0, rw same old_one.1)
-          ]
-      ]
+      ];
     })
 
 -- what was gone through and what is still to come list the clauses that watch a
 pub visited_listed : (pairs : List (ℤ × ℤ)) (trail : List ℤ) (a : ℤ) (xs : List ℕ) (i kept : ℕ) → AreVisited pairs trail a (take kept xs) (drop i xs) → kept ≤ length xs → AreListed pairs a xs
 visited_listed pairs trail a xs i kept visited within r h watches =
     let back : (q : ℕ) → Contains (take kept xs) q → Contains xs q = λ q (k, b, e).
-      let before : k < kept = omega (arith, b, length-take-le kept xs within) in
-      (k, omega (arith, before, within), sym (get_or-take kept xs k q before) ∙ e) in
+    let before : k < kept = omega (arith, b, length-take-le kept xs within) in
+    (k, omega (arith, before, within), sym (get_or-take kept xs k q before) ∙ e) in
     let later_one : (q : ℕ) → Contains (drop i xs) q → Contains xs q = λ q (k, b, e).
-      (i + k, omega (arith, b, length-drop i xs), sym (get_or-drop i xs k q) ∙ e) in
+    (i + k, omega (arith, b, length-drop i xs), sym (get_or-drop i xs k q) ∙ e) in
     elim watches [
       | inl e ↦ elim (visited.first r h e) [ inl rest ↦ later_one r rest | inr done ↦ back r done.0 ]
       | inr e ↦ elim (visited.second r h e) [ inl rest ↦ later_one r rest | inr done ↦ back r done.0 ]

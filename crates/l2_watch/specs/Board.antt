@@ -1,5 +1,5 @@
 -- Clauses, the literals that are true with what made them so, and the levels of what was decided.
-use Rattle.std.specs.Prelude.{◌≡◌, ◌≢◌, ◌⊎◌, ℕ, suc, zero, ◌+◌, ◌*◌, ◌<◌, ◌≤◌, ◌^◌, Bool, true, ℤ, pos, neg_ℤ, nat_abs, List, [], length, take, Contains, slice_index_or, ◌++◌, ◌∷◌}
+use Rattle.std.specs.Prelude.{◌≡◌, ◌≢◌, ◌⊎◌, ℕ, suc, zero, ◌+◌, ◌*◌, ◌<◌, ◌≤◌, ◌^◌, Bool, true, ℤ, pos, neg_ℤ, List, [], length, take, Contains, slice_index_or, ◌++◌, ◌∷◌}
 use Rattle.l2_cnf.specs.Trail.{AreOver, AreApart}
 use Rattle.l2_watch.specs.Past.{Past, IsReason}
 use Rattle.l2_watch.specs.Watch.{IsConsistent, IsPair, IsClosed}

@@ -1,5 +1,5 @@
 -- What dealing with one clause does to the trail and to its pair.
-use Rattle.std.specs.Prelude.{◌≡◌, ◌≢◌, ◌⊎◌, ℕ, ℤ, neg_ℤ, nat_abs, List, [], ◌∷◌, ◌++◌, ◌<◌, Contains, slice_index_or, length}
+use Rattle.std.specs.Prelude.{◌≡◌, ◌≢◌, ◌⊎◌, ℕ, ℤ, neg_ℤ, List, [], ◌∷◌, ◌++◌, ◌<◌, Contains, slice_index_or, length}
 use Rattle.l2_watch.specs.declared.visit.Step.{Step}
 use Rattle.l2_watch.specs.declared.visit.Step.TheVariants.{Keeps, Moved, Conflict}
 use Rattle.l2_watch.specs.Visit.{pair_of}

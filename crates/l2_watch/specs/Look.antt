@@ -1,5 +1,5 @@
 -- What a look at a clause shows whose one watched literal is false, and whose other isn't true.
-use Rattle.std.specs.Prelude.{◌≡◌, ◌≢◌, ℕ, ℤ, neg_ℤ, nat_abs, List, Contains}
+use Rattle.std.specs.Prelude.{◌≢◌, ℤ, neg_ℤ, List, Contains}
 use Rattle.l2_watch.specs.declared.looks.Look.{Look}
 use Rattle.l2_watch.specs.declared.looks.Look.TheVariants.{Implies, Moves, Conflict}
 

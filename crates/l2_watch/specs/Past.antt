@@ -1,5 +1,5 @@
 -- Literals that are true, in order, and what made each of them true.
-use Rattle.std.specs.Prelude.{◌≡◌, ◌≢◌, ◌⊎◌, ℕ, suc, zero, ◌+◌, ◌<◌, ◌≤◌, ℤ, pos, neg_ℤ, nat_abs, List, length, take, Contains, slice_index_or, []}
+use Rattle.std.specs.Prelude.{◌≡◌, ◌≢◌, ℕ, suc, zero, ◌<◌, ◌≤◌, ℤ, pos, neg_ℤ, nat_abs, List, length, take, Contains, slice_index_or, []}
 
 -- the reason of a literal is 0 where it was decided, else the number of a clause, the first of which has 1
 pub record Past : Type 0 where

@@ -1,5 +1,5 @@
 -- The lists by which each literal finds the clauses that watch it, while the list of one literal is gone through.
-use Rattle.std.specs.Prelude.{◌≡◌, ◌≢◌, ◌⊎◌, ℕ, ◌+◌, ◌*◌, ◌<◌, ◌≤◌, ℤ, pos, neg_ℤ, nat_abs, List, [], length, take, Contains, slice_index_or, map, Vec}
+use Rattle.std.specs.Prelude.{◌≡◌, ◌≢◌, ◌⊎◌, ℕ, ◌<◌, ◌≤◌, ℤ, pos, neg_ℤ, List, [], length, take, Contains, slice_index_or, map, Vec}
 use Rattle.std.specs.declared.alloc.Global.{Global}
 use Rattle.l2_cnf.specs.Lit.{code_of}
 use Rattle.l2_cnf.specs.Trail.{AreOver}

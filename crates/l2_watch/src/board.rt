@@ -112,7 +112,13 @@ impl Watch {
     {
         self.reset();
         self.cover(greatest(clause))?;
-        attach(&mut self.clauses, &mut self.pairs, &mut self.lists, clause, first_pair(clause))?;
+        attach(
+            &mut self.clauses,
+            &mut self.pairs,
+            &mut self.lists,
+            clause,
+            first_pair(clause),
+        )?;
         Ok(())
     }
 
@@ -207,7 +213,15 @@ impl Watch {
         let a = self.history.get(self.seen).negated();
         let code = a.code() as usize;
         let mut list = mem::replace(&mut self.lists[code], Vec::new(self.alloc));
-        let answer = visit_list(&self.clauses, &mut self.history, &mut self.pairs, &mut self.lists, self.seen, a, &mut list);
+        let answer = visit_list(
+            &self.clauses,
+            &mut self.history,
+            &mut self.pairs,
+            &mut self.lists,
+            self.seen,
+            a,
+            &mut list,
+        );
         self.lists[code] = list;
         match answer? {
             Some(r) => Ok(Some(r)),
@@ -303,7 +317,13 @@ impl Watch {
     {
         let _len = self.history.len();
         let r = self.clauses.len();
-        attach(&mut self.clauses, &mut self.pairs, &mut self.lists, clause, (u, w))?;
+        attach(
+            &mut self.clauses,
+            &mut self.pairs,
+            &mut self.lists,
+            clause,
+            (u, w),
+        )?;
         self.history.push(u, r + 1);
         Ok(())
     }

@@ -35,7 +35,11 @@ impl History {
         let trail = Trail::new(alloc, variables)?;
         let reasons = vec![in alloc; 0; variables as usize + 1]?;
         let places = vec![in alloc; 0; variables as usize + 1]?;
-        Ok(History { trail, reasons, places })
+        Ok(History {
+            trail,
+            reasons,
+            places,
+        })
     }
 
     pub fn len(&self) -> usize

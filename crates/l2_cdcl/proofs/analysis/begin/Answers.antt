@@ -16,7 +16,7 @@ refuted c =
     let last : c.len.result - 1 < length b.past.literals = omega (arith, c.len.ensures, some) in
     let but : Contains b.past.literals c.literal-but.result = (c.len.result - 1, last, get_or_default b.past.literals (c.len.result - 1) c.literal-but.result (pos 0) last ∙ sym c.literal-but.ensures) in
     begin_refutes b c.facts.ensures c.args.at.low c.args.at.start c.requires.level clause c.literal-but.result c.mark_others.new.marks c.mark_others.new.aside.items stands c.requires.false_ones but
-      (λ m h ne. c.in_ok-open.ensures.open m (rw c.clause.ensures h) ne)
+    (λ m h ne. c.in_ok-open.ensures.open m (rw c.clause.ensures h) ne)
 
 pub last_open-place-requires-clause-some : goal.last_open-place-requires-clause-some
 last_open-place-requires-clause-some c =
@@ -27,4 +27,4 @@ pub returns-clause-traced : goal.returns-clause-traced
 returns-clause-traced c =
     let b = c.args.watch.now in
     traced_to b c.facts.ensures c.args.at.low c.args.at.start c.requires.level c.last_open-place.result (length b.past.literals) c.mark_others.new.marks c.mark_others.new.aside.items c.last_open-place.ensures.first
-      (omega (arith, c.last_open-place.ensures.last, c.len-2.ensures)) (omega arith) c.in_ok-open.ensures.put (rw (sym c.len-2.ensures) c.last_open-place.ensures.none) (refuted (goal.at.returns-clause-traced c).In_ok-open)
+    (omega (arith, c.last_open-place.ensures.last, c.len-2.ensures)) (omega arith) c.in_ok-open.ensures.put (rw (sym c.len-2.ensures) c.last_open-place.ensures.none) (refuted (goal.at.returns-clause-traced c).In_ok-open)

@@ -21,12 +21,12 @@ loop-literal-preserved c =
       more = more_then c.args.marks.now c.loop-literal.marks marks c.args.aside.now.items c.loop-literal.aside.items aside c.loop-literal.invariant.more told.more;
       put = told.put;
       opened = below_more (λ k. get_or clause k (pos 0) ≢ c.args.but → IsOpen trail c.args.at.low c.args.at.start (length trail) marks aside (get_or clause k (pos 0))) i
-        (λ k h ne. open_more trail c.args.at.low c.args.at.start (length trail) c.loop-literal.marks marks c.loop-literal.aside.items aside told.more (get_or clause k (pos 0)) (c.loop-literal.invariant.opened k h ne))
-        (subst (λ x. x ≢ c.args.but → IsOpen trail c.args.at.low c.args.at.start (length trail) marks aside x) read told.open)
+          (λ k h ne. open_more trail c.args.at.low c.args.at.start (length trail) c.loop-literal.marks marks c.loop-literal.aside.items aside told.more (get_or clause k (pos 0)) (c.loop-literal.invariant.opened k h ne))
+          (subst (λ x. x ≢ c.args.but → IsOpen trail c.args.at.low c.args.at.start (length trail) marks aside x) read told.open);
     }
 
 pub returns-clause-open : goal.returns-clause-open
 returns-clause-open c = λ m (k, h, e) ne.
     let at : get_or c.args.clause.now k (pos 0) ≡ m = get_or_default c.args.clause.now k (pos 0) m h ∙ e in
     subst (IsOpen c.args.watch.now.past.literals c.args.at.low c.args.at.start (length c.args.watch.now.past.literals) c.loop-literal.marks c.loop-literal.aside.items) at
-      (c.loop-literal.invariant.opened k (omega (arith, h)) (λ s. ne (sym at ∙ s)))
+    (c.loop-literal.invariant.opened k (omega (arith, h)) (λ s. ne (sym at ∙ s)))

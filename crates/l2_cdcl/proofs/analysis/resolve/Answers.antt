@@ -39,7 +39,7 @@ step_refutes c is =
     let r : ℕ = c.reason-reason.result - 1 in
     let stands : Contains b.clauses (get_or b.clauses r []) = (r, is.0, get_or_default b.clauses r _ _ is.0) in
     trace_step b.clauses b.past.literals c.args.at.low c.args.at.start c.args.traced.place (get_or b.clauses r []) c.args.marks.now c.mark_others.new.marks c.args.aside.now.items c.mark_others.new.aside.items c.facts.ensures.apart c.requires.traced.within
-      stands is.1 c.in_ok-more.ensures.more (λ m h ne. c.in_ok-more.ensures.open m (subst (λ x. Contains x m) (sym c.clause.ensures) h) (λ e. ne (e ∙ c.literal-but.ensures))) c.requires.traced.refutes
+    stands is.1 c.in_ok-more.ensures.more (λ m h ne. c.in_ok-more.ensures.open m (subst (λ x. Contains x m) (sym c.clause.ensures) h) (λ e. ne (e ∙ c.literal-but.ensures))) c.requires.traced.refutes
 
 pub last_open-place-requires-clause-some : goal.last_open-place-requires-clause-some
 last_open-place-requires-clause-some c =
@@ -47,13 +47,14 @@ last_open-place-requires-clause-some c =
     let d = (goal.at.last_open-place-requires-clause-some c).After-reason-reason in
     let is = reasoned d c.if-reason-eq0.false in
     some_open b c.facts.ensures c.args.at.low c.args.at.start c.requires.level c.args.traced.place c.mark_others.new.marks c.mark_others.new.aside.items c.in_ok-more.ensures.put
-      (step_refutes (goal.at.last_open-place-requires-clause-some c).In_ok-more is)
+    (step_refutes (goal.at.last_open-place-requires-clause-some c).In_ok-more is)
 
 pub returns-clause-next : goal.returns-clause-next
 returns-clause-next c =
     let b = c.args.watch.now in
     let d = (goal.at.returns-clause-next c).After-reason-reason in
-    let is = reasoned d c.if-reason-eq0.false in
-    (c.last_open-place.ensures.last,
+    let is = reasoned d c.if-reason-eq0.false in (
+      c.last_open-place.ensures.last,
       traced_to b c.facts.ensures c.args.at.low c.args.at.start c.requires.level c.last_open-place.result c.args.traced.place c.mark_others.new.marks c.mark_others.new.aside.items c.last_open-place.ensures.first
-        c.last_open-place.ensures.last (omega (arith, c.requires.traced.within)) c.in_ok-more.ensures.put c.last_open-place.ensures.none (step_refutes (goal.at.returns-clause-next c).In_ok-more is))
+          c.last_open-place.ensures.last (omega (arith, c.requires.traced.within)) c.in_ok-more.ensures.put c.last_open-place.ensures.none (step_refutes (goal.at.returns-clause-next c).In_ok-more is),
+    )

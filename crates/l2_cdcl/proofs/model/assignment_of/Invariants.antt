@@ -6,5 +6,5 @@ use Rattle.l2_cdcl.proofs.model.assignment_of.Given as goal
 abbrev pub invariant-loop-i : goal.invariant-loop-i
 invariant-loop-i l = record {
   len : length l.values ≡ l.watch.variables;
-  made : (k : ℕ) → k < l.i → MakesTrue l.values (get_or l.watch.past.literals k (pos 0))
+  made : (k : ℕ) → k < l.i → MakesTrue l.values (get_or l.watch.past.literals k (pos 0));
 }

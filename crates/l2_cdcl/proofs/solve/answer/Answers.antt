@@ -39,7 +39,7 @@ returns-then-branch-clause-answer c =
     let s = c.refute.new.self in
     let has : Contains s.learnt [] = subst (λ x. Contains x []) (sym c.in_ok-refute.ensures.ok) (Contains-push c.begin.new.self.learnt []) in
     subst (λ x. IsCore c.in_ok-core-2.field-0 c.args.assumptions.now x s.learnt) (c.refute.ensures.added ∙ c.begin.ensures.added)
-      (core_is s c.args.assumptions.now c.in_ok-core-2.field-0 0 c.facts-then-branch.ensures c.in_ok-core-2.ensures (omega arith) (empty_settles s (take 0 c.args.assumptions.now) c.facts-then-branch.ensures has))
+    (core_is s c.args.assumptions.now c.in_ok-core-2.field-0 0 c.facts-then-branch.ensures c.in_ok-core-2.ensures (omega arith) (empty_settles s (take 0 c.args.assumptions.now) c.facts-then-branch.ensures has))
 
 -- what the search learnt
 searched : (c : After-search) → (new : List (List ℤ)) → new ≡ c.search.new.self.learnt → IsLearning c.args.assumptions.now c.args.engine.now.added c.args.engine.now.learnt new
@@ -59,9 +59,10 @@ returns-in_ok-assignment-in-Whole-clause-answer c =
     let s = c.search.new.self in
     let assumptions = c.args.assumptions.now in
     let whole : IsWhole assumptions s.board = subst (IsVerdict assumptions s) c.in-Whole.is c.in_ok-search.ensures.verdict in
-    let none = c.search.ensures.whole (c.in_ok-search.was ∙ ap Ok c.in-Whole.is) in
-    (subst (λ x. IsModel c.in_ok-assignment-in-Whole.field-0 x assumptions) (c.search.ensures.added ∙ c.begin.ensures.added) (whole_model s assumptions c.in_ok-assignment-in-Whole.field-0 c.facts-in-Whole.ensures whole c.in_ok-assignment-in-Whole.ensures),
-      (λ h. none (subst (λ x. Settles x assumptions) (λ i. sym c.begin.ensures.added i ++ sym c.begin.ensures.learnt i) h)))
+    let none = c.search.ensures.whole (c.in_ok-search.was ∙ ap Ok c.in-Whole.is) in (
+      subst (λ x. IsModel c.in_ok-assignment-in-Whole.field-0 x assumptions) (c.search.ensures.added ∙ c.begin.ensures.added) (whole_model s assumptions c.in_ok-assignment-in-Whole.field-0 c.facts-in-Whole.ensures whole c.in_ok-assignment-in-Whole.ensures),
+      (λ h. none (subst (λ x. Settles x assumptions) (λ i. sym c.begin.ensures.added i ++ sym c.begin.ensures.learnt i) h)),
+    )
 
 -- so many assumptions are settled
 refuted : (c : In-Refuted) → (c.in-Refuted.n ≤ length c.args.assumptions.now) × Settles c.search.new.self.board.clauses (take c.in-Refuted.n c.args.assumptions.now)
@@ -73,10 +74,10 @@ returns-in_err-close-in-Refuted-clause-learning c = searched (goal.at.returns-in
 learnt : (c : In_ok-close-in-Refuted) → ((new : List (List ℤ)) → new ≡ c.search.new.self.learnt → IsLearning c.args.assumptions.now c.args.engine.now.added c.args.engine.now.learnt new) → (c.in-Refuted.n ≤ length c.args.assumptions.now) × Settles c.search.new.self.board.clauses (take c.in-Refuted.n c.args.assumptions.now)
     → ¬ Contains c.args.engine.now.learnt [] → IsLearning c.args.assumptions.now c.args.engine.now.added c.args.engine.now.learnt c.close.new.engine.learnt
 learnt c old told none = elim c.in_ok-close-in-Refuted.ensures.ok [
-    | inl (z, grew) ↦ learning_closed c.args.assumptions.now c.begin.new.self c.search.new.self c.args.engine.now.added c.args.engine.now.learnt c.close.new.engine.learnt c.search.ensures.found c.facts-in-Refuted.ensures
+  | inl (z, grew) ↦ learning_closed c.args.assumptions.now c.begin.new.self c.search.new.self c.args.engine.now.added c.args.engine.now.learnt c.close.new.engine.learnt c.search.ensures.found c.facts-in-Refuted.ensures
       (c.search.ensures.added ∙ c.begin.ensures.added) c.begin.ensures.added c.begin.ensures.learnt grew none (settled_empty c.search.new.self.board.clauses c.args.assumptions.now c.in-Refuted.n z told.1)
-    | inr same ↦ old c.close.new.engine.learnt same
-  ]
+  | inr same ↦ old c.close.new.engine.learnt same
+]
 
 pub returns-in_err-core-in-Refuted-clause-learning : goal.returns-in_err-core-in-Refuted-clause-learning
 returns-in_err-core-in-Refuted-clause-learning c = learnt (goal.at.returns-in_err-core-in-Refuted-clause-learning c).In_ok-close-in-Refuted (searched (goal.at.returns-in_err-core-in-Refuted-clause-learning c).After-search) (refuted (goal.at.returns-in_err-core-in-Refuted-clause-learning c).In-Refuted) (first (goal.at.returns-in_err-core-in-Refuted-clause-learning c).In_ok-begin)
@@ -96,4 +97,4 @@ returns-in_ok-core-in-Refuted-clause-answer c =
       | inr same ↦ settles_same s.board.clauses t.board.clauses (take n assumptions) (λ x h. c.facts-in-Refuted-2.ensures.inside x (subst (λ y. Contains y x) (λ i. sym c.close.ensures.added i ++ sym same i) (c.facts-in-Refuted.ensures.all x h))) told.1
     ] in
     subst (λ x. IsCore c.in_ok-core-in-Refuted.field-0 assumptions x t.learnt) (c.close.ensures.added ∙ c.search.ensures.added ∙ c.begin.ensures.added)
-      (core_is t assumptions c.in_ok-core-in-Refuted.field-0 n c.facts-in-Refuted-2.ensures c.in_ok-core-in-Refuted.ensures told.0 settled)
+    (core_is t assumptions c.in_ok-core-in-Refuted.field-0 n c.facts-in-Refuted-2.ensures c.in_ok-core-in-Refuted.ensures told.0 settled)

@@ -27,14 +27,14 @@ loop-literal-preserved c =
       within = chosen (λ f. f.place < length trail) last next c.later-last.result one c.loop-literal.invariant.within c.fall_of.ensures.within;
       here = chosen (λ f. get_or trail f.place (pos 0) ≡ neg_ℤ f.literal) last next c.later-last.result one c.loop-literal.invariant.here (c.fall_of.ensures.here ∙ ap neg_ℤ (sym c.fall_of.ensures.literal));
       all = below_more (λ k. IsFalseBefore trail (c.later-last.result.place + 1) (get_or aside k (pos 0))) i
-        (λ k h. later_false trail (last.place + 1) (c.later-last.result.place + 1) (get_or aside k (pos 0)) (omega (arith, c.later-last.ensures.first)) (c.loop-literal.invariant.all k h))
-        (next.place, omega (arith, c.later-last.ensures.second), c.fall_of.ensures.here ∙ ap neg_ℤ read)
+          (λ k h. later_false trail (last.place + 1) (c.later-last.result.place + 1) (get_or aside k (pos 0)) (omega (arith, c.later-last.ensures.first)) (c.loop-literal.invariant.all k h))
+          (next.place, omega (arith, c.later-last.ensures.second), c.fall_of.ensures.here ∙ ap neg_ℤ read);
     }
 
 pub returns : goal.returns
 returns c = record {
-    stands = c.loop-literal.invariant.stands;
-    within = c.loop-literal.invariant.within;
-    here = c.loop-literal.invariant.here;
-    all = λ m (k, h, e). subst (IsFalseBefore c.args.watch.now.past.literals (c.loop-literal.last.place + 1)) (get_or_default c.args.aside.now k (pos 0) m h ∙ e) (c.loop-literal.invariant.all k (omega (arith, h)))
-  }
+  stands = c.loop-literal.invariant.stands;
+  within = c.loop-literal.invariant.within;
+  here = c.loop-literal.invariant.here;
+  all = λ m (k, h, e). subst (IsFalseBefore c.args.watch.now.past.literals (c.loop-literal.last.place + 1)) (get_or_default c.args.aside.now k (pos 0) m h ∙ e) (c.loop-literal.invariant.all k (omega (arith, h)));
+}

@@ -8,5 +8,5 @@ invariant-loop-literal l = record {
   stands : Contains l.aside l.last.literal;
   within : l.last.place < length l.watch.past.literals;
   here : get_or l.watch.past.literals l.last.place (pos 0) ≡ neg_ℤ l.last.literal;
-  all : (k : ℕ) → k < l.literal-index → IsFalseBefore l.watch.past.literals (l.last.place + 1) (get_or l.aside k (pos 0))
+  all : (k : ℕ) → k < l.literal-index → IsFalseBefore l.watch.past.literals (l.last.place + 1) (get_or l.aside k (pos 0));
 }

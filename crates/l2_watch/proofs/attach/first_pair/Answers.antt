@@ -1,5 +1,5 @@
-use Rattle.std.proofs.Common.{◌≡◌, ◌≢◌, ◌<◌, inl, inr, sym, ◌∙◌, ℕ, get_or, length, arith, []}
-use Rattle.std.specs.Prelude.{ℤ, pos, Contains}
+use Rattle.std.proofs.Common.{◌≢◌, inr, sym, ◌∙◌, length, arith}
+use Rattle.std.specs.Prelude.{pos, Contains}
 use Rattle.std.proofs.lemmas.List.{get_or_default}
 use Rattle.l2_watch.proofs.Moves.{no_length}
 use Rattle.l2_watch.proofs.attach.first_pair.Goals as goal
@@ -11,5 +11,5 @@ returns-clause-pair c =
     inr (record {
       first = here;
       second = here;
-      one = λ e m (k, h, there). sym there ∙ get_or_default c.args.clause.now k m (pos 0) h ∙ c.loop-literal.invariant k (omega (arith, h))
+      one = λ e m (k, h, there). sym there ∙ get_or_default c.args.clause.now k m (pos 0) h ∙ c.loop-literal.invariant k (omega (arith, h));
     })

@@ -1,5 +1,5 @@
 use Rattle.std.proofs.Common.{◌≡◌, ℕ, ◌<◌, get_or}
-use Rattle.std.specs.Prelude.{ℤ, pos}
+use Rattle.std.specs.Prelude.{pos}
 use Rattle.l2_watch.proofs.attach.first_pair.Given as goal
 
 abbrev pub invariant-loop-literal : goal.invariant-loop-literal

@@ -1,4 +1,4 @@
-use Rattle.std.proofs.Common.{◌≡◌, ◌++◌, ◌∷◌, ◌<◌, [], sym, ap, ◌∙◌, ℕ, List, set, get_or, length, arith, subst}
+use Rattle.std.proofs.Common.{◌≡◌, ◌++◌, ◌∷◌, ◌<◌, [], sym, ap, ◌∙◌, set, get_or, length, arith, subst}
 use Rattle.std.specs.Prelude.{Contains}
 use Rattle.std.proofs.lemmas.List.{map-set, get_or-map, set-get_or, length-map}
 use Rattle.l2_watch.specs.Visit.{items_of, list_of}

@@ -1,5 +1,5 @@
-use Rattle.std.proofs.Common.{◌≡◌, ◌≢◌, ℕ, ◌<◌, get_or}
-use Rattle.std.specs.Prelude.{ℤ, pos, neg_ℤ, Contains}
+use Rattle.std.proofs.Common.{◌≢◌, ℕ, ◌<◌, get_or}
+use Rattle.std.specs.Prelude.{pos, neg_ℤ, Contains}
 use Rattle.l2_watch.proofs.looks.other_live.Given as goal
 
 abbrev pub invariant-loop-literal : goal.invariant-loop-literal

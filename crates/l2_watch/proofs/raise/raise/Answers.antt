@@ -1,5 +1,4 @@
-use Rattle.std.proofs.Common.{◌≡◌, ◌≢◌, ◌<◌, ◌≤◌, ◌+◌, ◌++◌, ◌∷◌, [], inl, inr, sym, ◌∙◌, ap, subst, ℕ, get_or, length, arith, List, refl, true, false}
-use Rattle.std.specs.Prelude.{ℤ, pos, neg_ℤ, Contains}
+use Rattle.std.proofs.Common.{◌≡◌, ◌<◌, [], sym, subst, ℕ, get_or, length, arith}
 use Rattle.std.proofs.lemmas.List.{get_or_default}
 use borrow.Author.Count.{below_more}
 use Rattle.l2_cnf.specs.Trail.{AreOver}
@@ -19,10 +18,10 @@ returns-then-raise_one-clause-grown c = IsGrown-then c.args.clauses.now c.args.h
 
 pub loop-r-preserved : goal.loop-r-preserved
 loop-r-preserved c = record {
-    grown = IsGrown-then c.args.clauses.now c.args.history.now c.loop-r.history c.raise_one.new.history c.loop-r.invariant.grown c.raise_one.ensures.grown;
-    raised =
+  grown = IsGrown-then c.args.clauses.now c.args.history.now c.loop-r.history c.raise_one.new.history c.loop-r.invariant.grown c.raise_one.ensures.grown;
+  raised =
       let read : c.index-pairs-r.result ≡ pair_of c.args.pairs.now c.loop-r.r = read_pair c.args.pairs.now c.loop-r.r c.index-pairs-r.result (omega (arith, c.requires.count)) c.index-pairs-r.is in
       let here : IsRaised (get_or c.args.clauses.now c.loop-r.r []) c.raise_one.new.history.literals (pair_of c.args.pairs.now c.loop-r.r) = subst (IsRaised (get_or c.args.clauses.now c.loop-r.r []) c.raise_one.new.history.literals) read (c.if-raise_one.ensures.cases) in
       below_more (λ r. IsRaised (get_or c.args.clauses.now r []) c.raise_one.new.history.literals (pair_of c.args.pairs.now r)) c.loop-r.r
-        (λ r h. let old = c.loop-r.invariant.raised r h in (old.0, (λ e. grown_more c.args.clauses.now c.loop-r.history c.raise_one.new.history c.raise_one.ensures.grown (pair_of c.args.pairs.now r).0 (old.1 e)))) here
-  }
+      (λ r h. let old = c.loop-r.invariant.raised r h in (old.0, (λ e. grown_more c.args.clauses.now c.loop-r.history c.raise_one.new.history c.raise_one.ensures.grown (pair_of c.args.pairs.now r).0 (old.1 e)))) here;
+}

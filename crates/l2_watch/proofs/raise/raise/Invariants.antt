@@ -1,4 +1,4 @@
-use Rattle.std.proofs.Common.{◌≡◌, ◌≤◌, ◌<◌, ℕ, length, get_or, []}
+use Rattle.std.proofs.Common.{◌<◌, ℕ, get_or, []}
 use Rattle.l2_watch.specs.Past.{IsGrown}
 use Rattle.l2_watch.specs.Visit.{pair_of, IsRaised}
 use Rattle.l2_watch.proofs.raise.raise.Given as goal
@@ -6,5 +6,5 @@ use Rattle.l2_watch.proofs.raise.raise.Given as goal
 abbrev pub invariant-loop-r : goal.invariant-loop-r
 invariant-loop-r l = record {
   grown : IsGrown l.clauses l.initial.history l.history;
-  raised : (r : ℕ) → r < l.r → IsRaised (get_or l.clauses r []) l.history.literals (pair_of l.pairs r)
+  raised : (r : ℕ) → r < l.r → IsRaised (get_or l.clauses r []) l.history.literals (pair_of l.pairs r);
 }

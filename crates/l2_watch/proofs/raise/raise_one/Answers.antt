@@ -1,7 +1,6 @@
-use Rattle.std.proofs.Common.{Bool, ◌≡◌, ◌≢◌, ◌<◌, ◌≤◌, ◌++◌, ◌∷◌, [], inl, inr, sym, ◌∙◌, ap, subst, ℕ, get_or, length, arith, List, refl, true, false, eqb, rules}
-use Rattle.std.specs.Prelude.{ℤ, pos, neg_ℤ, Contains}
+use Rattle.std.proofs.Common.{◌≡◌, ◌≢◌, [], inl, inr, sym, ◌∙◌, ap, subst, get_or, length}
+use Rattle.std.specs.Prelude.{ℤ, neg_ℤ, Contains}
 use Rattle.std.proofs.lemmas.List.Elements.{Contains-push}
-use Rattle.std.proofs.lemmas.Bool.Decides.{nat_tests}
 use Rattle.l2_watch.specs.Watch.{IsPair}
 use Rattle.l2_watch.proofs.Moves.{code_tells, no_length}
 use Rattle.l2_watch.proofs.Pasts.{IsGrown-push}

@@ -1,11 +1,10 @@
 use Rattle.std.proofs.Common.{◌≡◌, ◌≢◌, ◌<◌, ◌≤◌, inl, inr, sym, subst, ◌∙◌, ℕ, get_or, set, take, length, [], ◌∷◌, ◌++◌, arith, refl, ap, List}
-use Rattle.std.specs.Prelude.{ℤ, neg_ℤ, nat_abs, Contains, ◌⊎◌, pos}
+use Rattle.std.specs.Prelude.{ℤ, neg_ℤ, nat_abs, Contains}
 use Rattle.l2_cnf.specs.Lit.{code_of}
 use Rattle.std.proofs.lemmas.List.{get_or_default, length-set, length-map}
 use Rattle.std.proofs.Common.{true, false}
 use Rattle.std.proofs.lemmas.List.Elements.{Contains-push}
 use Rattle.l2_watch.specs.Visit.{pair_of, IsOther, items_of, AreGuarded}
-use Rattle.l2_watch.specs.Handled.{Extends}
 use Rattle.l2_watch.proofs.Moves.{other_stands, other_differs, moved_pairs, moved_guarded, moved_found, moved_apart, moved_parts, guarded_more, read_pair, Contains-take, code_within}
 use Rattle.l2_watch.proofs.Pasts.{IsGrown-push}
 use Rattle.l2_watch.proofs.visit.handle.Goals as goal
@@ -32,7 +31,6 @@ over_one c l h = (c.requires.pairs.over (get_or c.args.clauses.now c.args.r []) 
 pub is_true-requires : goal.is_true-requires
 is_true-requires c = over_one (goal.at.is_true-requires c).In-Some c.in-Some.other (stands (goal.at.is_true-requires c).In-Some)
 
-
 apart_from : (c : In-Some) → c.in-Some.other ≢ c.args.a
 apart_from c = other_differs (take c.args.seen c.args.history.now.literals) c.args.history.now.literals (pair_of c.args.pairs.now.items c.args.r) c.args.a c.in-Some.other
     (λ m h. Contains-take c.args.seen c.args.history.now.literals m c.requires.seen h) c.requires.consistent c.requires.false_one (role c) (c.requires.guarded c.args.r (within c))
@@ -41,15 +39,15 @@ apart_from c = other_differs (take c.args.seen c.args.history.now.literals) c.ar
 other_true : (c : In-Some) (new : List ℤ) → Contains new c.in-Some.other
     → ((pair_of c.args.pairs.now.items c.args.r).0 ≡ c.args.a → Contains new (pair_of c.args.pairs.now.items c.args.r).1) × ((pair_of c.args.pairs.now.items c.args.r).1 ≡ c.args.a → Contains new (pair_of c.args.pairs.now.items c.args.r).0)
 other_true c new h = (
-    (λ e. elim (role c) [
-      | inl s ↦ subst (Contains new) s.1 h
-      | inr s ↦ absurd (apart_from c (s.1 ∙ e))
-    ]),
-    (λ e. elim (role c) [
-      | inl s ↦ absurd (apart_from c (s.1 ∙ e))
-      | inr s ↦ subst (Contains new) s.1 h
-    ])
-  )
+  (λ e. elim (role c) [
+    | inl s ↦ subst (Contains new) s.1 h
+    | inr s ↦ absurd (apart_from c (s.1 ∙ e))
+  ]),
+  (λ e. elim (role c) [
+    | inl s ↦ absurd (apart_from c (s.1 ∙ e))
+    | inr s ↦ subst (Contains new) s.1 h
+  ]),
+)
 
 pub returns-then-is_true-clause-handled : goal.returns-then-is_true-clause-handled
 returns-then-is_true-clause-handled c =
@@ -89,13 +87,12 @@ returns-in-Implies-clause-handled c =
     let e = (goal.at.returns-in-Implies-clause-handled c).In-Implies in
     let o_in : Contains c.push.new.self.literals c.in-Some.other = rw c.push.ensures.literals (Contains-push c.args.history.now.literals c.in-Some.other) in
     let both = other_true d c.push.new.self.literals o_in in
-    let unset : ¬ Contains c.args.history.now.literals c.in-Some.other = λ h. let t : c.is_true.result ≡ true = c.is_true.ensures.1 h in let f : c.is_true.result ≡ false = c.if-is_true.false in cc in
-    (
+    let unset : ¬ Contains c.args.history.now.literals c.in-Some.other = λ h. let t : c.is_true.result ≡ true = c.is_true.ensures.1 h in let f : c.is_true.result ≡ false = c.if-is_true.false in cc in (
       refl,
       small d,
       inr (c.in-Some.other, c.push.ensures.literals, unset, c.in-Implies.ensures.0, stands d, others_false e),
       both.0,
-      both.1
+      both.1,
     )
 
 pub returns-in-Implies-clause-guarded : goal.returns-in-Implies-clause-guarded
@@ -125,7 +122,7 @@ returns-in_ok-add_to-in-Moves-clause-found c =
     let m_in : Contains (get_or c.args.clauses.now c.args.r []) c.in-Moves.m = subst (λ x. Contains x c.in-Moves.m) c.clause.ensures c.in-Moves.ensures.0 in
     let fits : code_of c.in-Moves.m < length lists = omega (arith, code_within c.in-Moves.m c.args.history.now.variables (over_one d c.in-Moves.m m_in), c.requires.lists, length-map c.args.lists.now.items (λ v. v.items)) in
     let new : items_of c.add_to.new.lists.items ≡ set lists (code_of c.in-Moves.m) (get_or lists (code_of c.in-Moves.m) [] ++ c.args.r ∷ []) =
-      c.in_ok-add_to-in-Moves.ensures.ok ∙ ap (λ k. set lists k (get_or lists k [] ++ c.args.r ∷ [])) c.code.ensures.code in
+    c.in_ok-add_to-in-Moves.ensures.ok ∙ ap (λ k. set lists k (get_or lists k [] ++ c.args.r ∷ [])) c.code.ensures.code in
     moved_found c.args.pairs.now.items lists (items_of c.add_to.new.lists.items) c.args.r c.args.a c.in-Some.other c.in-Moves.m c.requires.found (within d) (role d) (apart_from d) fits new
 
 pub returns-in_ok-add_to-in-Moves-clause-guarded : goal.returns-in_ok-add_to-in-Moves-clause-guarded

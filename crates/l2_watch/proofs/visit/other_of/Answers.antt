@@ -1,4 +1,4 @@
-use Rattle.std.proofs.Common.{◌≡◌, inl, inr, refl, sym, ap, true, false, ◌∙◌}
+use Rattle.std.proofs.Common.{inl, inr, refl, sym, ◌∙◌}
 use Rattle.l2_watch.proofs.Moves.{code_tells, code_parts}
 use Rattle.l2_watch.proofs.visit.other_of.Goals as goal
 

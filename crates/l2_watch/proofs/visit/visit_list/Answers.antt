@@ -1,15 +1,12 @@
-use Rattle.std.proofs.Common.{◌≡◌, ◌≢◌, ◌<◌, ◌≤◌, ◌+◌, ◌*◌, inl, inr, sym, subst, ◌∙◌, ℕ, get_or, set, take, drop, length, [], ◌∷◌, ◌++◌, arith, refl, ap, List, Ok, Some}
-use Rattle.std.specs.Prelude.{ℤ, neg_ℤ, nat_abs, Contains, ◌⊎◌, pos}
-use Rattle.std.proofs.lemmas.List.{get_or_default, length-set, drop-set-lt}
+use Rattle.std.proofs.Common.{◌≡◌, ◌<◌, sym, subst, ◌∙◌, ℕ, get_or, take, length, [], arith, List}
+use Rattle.std.specs.Prelude.{ℤ, Contains}
+use Rattle.std.proofs.lemmas.List.{get_or_default, length-set}
 use Rattle.l2_cnf.specs.Trail.{AreOver}
-use Rattle.l2_watch.specs.Past.{Past, IsGrown}
-use Rattle.l2_watch.specs.Watch.{IsConsistent}
-use Rattle.l2_watch.specs.Visit.{pair_of, AreVisited, AreGuarded, AreFound, ArePairs, KeepsParts, items_of}
-use Rattle.l2_watch.specs.Handled.{Extends, IsHandled}
-use Rattle.l2_watch.specs.declared.visit.Step.{Step}
-use Rattle.l2_watch.specs.declared.visit.Step.TheVariants.{Keeps, Moved, Conflict}
+use Rattle.l2_watch.specs.Visit.{AreGuarded, ArePairs}
+use Rattle.l2_watch.specs.Handled.{IsHandled}
+use Rattle.l2_watch.specs.declared.visit.Step.TheVariants.{Keeps, Moved}
 use Rattle.l2_watch.proofs.Visits.{handled_consistent, visited_keeps, visited_moved, parts_then}
-use Rattle.l2_watch.proofs.Pasts.{IsGrown-then, grown_part, IsGrown-none, grown_more}
+use Rattle.l2_watch.proofs.Pasts.{IsGrown-then, grown_part}
 use Rattle.l2_watch.proofs.visit.visit_list.Goals as goal
 use Rattle.l2_watch.proofs.visit.visit_list.Goals.{in-Keeps, in-Moved, After-handle}
 
@@ -51,9 +48,9 @@ loop-i-preserved c =
       visited = elim c.match-branch-2.branch [
         | in-Keeps w ↦ (rw (w.list-is, w.kept-is, read)
             (visited_keeps clauses old new before after c.args.a xs i c.loop-i.kept within c.loop-i.invariant.kept
-              (subst (λ k. IsHandled clauses old new before after c.args.a k Keeps) read (subst (IsHandled clauses old new before after c.args.a r) w.in-Keeps.is handled)) c.loop-i.invariant.visited))
+            (subst (λ k. IsHandled clauses old new before after c.args.a k Keeps) read (subst (IsHandled clauses old new before after c.args.a r) w.in-Keeps.is handled)) c.loop-i.invariant.visited))
         | in-Moved w ↦ (rw (w.list-is, w.kept-is)
             (visited_moved clauses old new before after c.args.a xs i c.loop-i.kept within c.loop-i.invariant.pairs.count
-              (subst (λ k. IsHandled clauses old new before after c.args.a k Moved) read (subst (IsHandled clauses old new before after c.args.a r) w.in-Moved.is handled)) c.loop-i.invariant.visited))
-      ]
+            (subst (λ k. IsHandled clauses old new before after c.args.a k Moved) read (subst (IsHandled clauses old new before after c.args.a r) w.in-Moved.is handled)) c.loop-i.invariant.visited))
+      ];
     }

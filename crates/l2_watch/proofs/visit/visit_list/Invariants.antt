@@ -1,5 +1,4 @@
-use Rattle.std.proofs.Common.{◌≡◌, ◌≤◌, ◌<◌, ◌+◌, ◌*◌, ℕ, take, drop, length}
-use Rattle.std.specs.Prelude.{ℤ, neg_ℤ, Contains}
+use Rattle.std.proofs.Common.{◌≡◌, ◌≤◌, take, drop, length}
 use Rattle.l2_watch.specs.Past.{IsGrown}
 use Rattle.l2_watch.specs.Watch.{IsConsistent}
 use Rattle.l2_watch.specs.Visit.{items_of, ArePairs, AreFound, AreGuarded, AreVisited, KeepsParts}
@@ -16,5 +15,5 @@ invariant-loop-i l = record {
   found : AreFound l.pairs.items (items_of l.lists.items) l.a;
   guarded : AreGuarded l.pairs.items (take l.seen l.initial.history.literals) l.history.literals;
   parts : KeepsParts l.initial.history.literals l.initial.pairs.items l.pairs.items;
-  visited : AreVisited l.pairs.items l.history.literals l.a (take l.kept l.list.items) (drop l.i l.list.items)
+  visited : AreVisited l.pairs.items l.history.literals l.a (take l.kept l.list.items) (drop l.i l.list.items);
 }

@@ -20,13 +20,13 @@ invariant_of-self-2 c = kept (goal.at.invariant_of-self-2 c).After-start
 
 pub returns-clause-cases : goal.returns-clause-cases
 returns-clause-cases c = (
-    (λ e. record {
-      ready = c.start.ensures.none (c.in_ok-conflict.was ∙ ap Ok (none_is c.in_ok-conflict.conflict (sym c.is_some.ensures ∙ e)));
-      over = subst (λ n. AreOver n c.args.assumptions.now) (sym (c.start.ensures.variables ∙ ap (λ s. s.board.variables) c.self.view_is)) c.in_ok-cover.ensures.over;
-      assumed = λ j h. absurd (omega (arith, h, ap length c.start.ensures.levels))
-    }),
-    (λ e.
+  (λ e. record {
+    ready = c.start.ensures.none (c.in_ok-conflict.was ∙ ap Ok (none_is c.in_ok-conflict.conflict (sym c.is_some.ensures ∙ e)));
+    over = subst (λ n. AreOver n c.args.assumptions.now) (sym (c.start.ensures.variables ∙ ap (λ s. s.board.variables) c.self.view_is)) c.in_ok-cover.ensures.over;
+    assumed = λ j h. absurd (omega (arith, h, ap length c.start.ensures.levels));
+  }),
+  (λ e.
       let some = some_is c.in_ok-conflict.conflict (sym c.is_some.ensures ∙ e) in
       let told = c.start.ensures.conflict some.0 (c.in_ok-conflict.was ∙ ap Ok some.1) in
-      root_follows c.start.new.self some.0 c.facts.ensures c.start.ensures.levels told.0 told.1)
-  )
+      root_follows c.start.new.self some.0 c.facts.ensures c.start.ensures.levels told.0 told.1),
+)

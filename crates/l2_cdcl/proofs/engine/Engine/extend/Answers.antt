@@ -28,7 +28,7 @@ returns-then-is_false-clause-turn c =
     let level : c.levels-level.result ≡ length b.levels = c.levels-level.ensures in
     let most : length b.levels < length assumptions = omega (arith, level) in
     let read : get_or assumptions (length b.levels) (pos 0) ≡ c.index-assumptions-level.result =
-      get_or_default assumptions (length b.levels) (pos 0) c.index-assumptions-level.result most ∙ ap (λ n. get_or assumptions n c.index-assumptions-level.result) (sym level) ∙ sym c.index-assumptions-level.is in
+    get_or_default assumptions (length b.levels) (pos 0) c.index-assumptions-level.result most ∙ ap (λ n. get_or assumptions n c.index-assumptions-level.result) (sym level) ∙ sym c.index-assumptions-level.is in
     let settled : Settles b.clauses (take (length b.levels + 1) assumptions) = settled_false b assumptions c.index-assumptions-level.result c.facts.ensures (assumed d) most read (c.is_false.ensures.0 c.if-is_false.true) in
     (refl, omega (arith, level, most), subst (λ x. Settles x (take (c.levels-level.result + 1) assumptions)) (ap (λ x. x.clauses) (board d)) (subst (λ n. Settles b.clauses (take (n + 1) assumptions)) (sym level) settled))
 
@@ -47,10 +47,11 @@ returns-in-None-clause-turn c =
     let d = (goal.at.returns-in-None-clause-turn c).After-facts in
     let b = c.self.inside.watch in
     let seen : b.seen ≡ length b.past.literals = ap (λ x. x.seen) (board d) ∙ c.requires.seen ∙ sym (ap (λ x. length x.past.literals) (board d)) in
-    let ready : b.ready ≡ true = ap (λ x. x.ready) (board d) ∙ c.requires.ready.ready in
-    (ap (λ s. s.learnt) c.self.view_is,
+    let ready : b.ready ≡ true = ap (λ x. x.ready) (board d) ∙ c.requires.ready.ready in (
+      ap (λ s. s.learnt) c.self.view_is,
       record {
         closed = c.facts.ensures.closed ready seen;
         met = whole_met b c.args.assumptions.now c.facts.ensures (assumed d) (omega (arith, c.levels-level.ensures));
-        none = c.in-None.ensures
-      })
+        none = c.in-None.ensures;
+      },
+    )

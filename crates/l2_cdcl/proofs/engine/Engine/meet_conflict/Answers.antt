@@ -68,7 +68,7 @@ module _ (c : In_ok-push) (is : IsBoard c.self.inside.watch) (ready : c.self.ins
 
   learnt_is : IsLearnt (take (start_of c.self.inside.watch.levels c.aim-target.result.level) c.self.inside.watch.past.literals) (take c.aim-target.result.level c.self.inside.watch.levels) c.push.new.self.items c.negated-u.result c.aim-target.result.second
   learnt_is = subst (λ x. IsLearnt (take (start_of c.self.inside.watch.levels c.aim-target.result.level) c.self.inside.watch.past.literals) (take c.aim-target.result.level c.self.inside.watch.levels) x c.negated-u.result c.aim-target.result.second) (sym clause_is)
-    (point_learnt c.self.inside.watch c.start_of.result c.start_of-2.result c.in_ok-point.point c.analyse.new.aside.items c.negated-u.result is here point u_is c.aim-target.result.level c.aim-target.result.second target_is)
+      (point_learnt c.self.inside.watch c.start_of.result c.start_of-2.result c.in_ok-point.point c.analyse.new.aside.items c.negated-u.result is here point u_is c.aim-target.result.level c.aim-target.result.second target_is)
 
 ready_is : (c : After-facts) → c.self.inside.watch.ready ≡ true
 ready_is c = ap (λ b. b.ready) (board c) ∙ c.requires.ready.ready
@@ -78,7 +78,7 @@ learn-requires-clause-learnt c =
     let d = (goal.at.learn-requires-clause-learnt c).In_ok-push in
     let e = (goal.at.learn-requires-clause-learnt c).After-facts in
     subst (λ x. IsLearnt (take (start_of c.self.inside.watch.levels c.aim-target.result.level) c.self.inside.watch.past.literals) (take c.aim-target.result.level c.self.inside.watch.levels) x c.negated-u.result c.aim-target.result.second) (sym c.as_slice-2.ensures)
-      (learnt_is d c.facts.ensures (ready_is e) (omega arith))
+    (learnt_is d c.facts.ensures (ready_is e) (omega arith))
 
 pub learn-requires-clause-over : goal.learn-requires-clause-over
 learn-requires-clause-over c =
@@ -98,7 +98,7 @@ returns-in_err-learn-clause-ready c =
     record {
       ready = c.learn.ensures.still;
       over = subst (λ n. AreOver n c.args.assumptions.now) (sym (c.learn.ensures.variables ∙ ap (λ b. b.variables) (board e))) c.requires.ready.over;
-      assumed = subst (AreAssumed c.args.assumptions.now) (sym c.learn.ensures.levels) (assumed_back c.args.assumptions.now c.self.inside.watch.levels c.aim-target.result.level (omega (arith, c.aim-target.ensures.within)) (assumed e))
+      assumed = subst (AreAssumed c.args.assumptions.now) (sym c.learn.ensures.levels) (assumed_back c.args.assumptions.now c.self.inside.watch.levels c.aim-target.result.level (omega (arith, c.aim-target.ensures.within)) (assumed e));
     }
 
 pub returns-clause-ready : goal.returns-clause-ready
@@ -107,7 +107,7 @@ returns-clause-ready c =
     record {
       ready = c.learn.ensures.still;
       over = subst (λ n. AreOver n c.args.assumptions.now) (sym (c.learn.ensures.variables ∙ ap (λ b. b.variables) (board e))) c.requires.ready.over;
-      assumed = subst (AreAssumed c.args.assumptions.now) (sym c.learn.ensures.levels) (assumed_back c.args.assumptions.now c.self.inside.watch.levels c.aim-target.result.level (omega (arith, c.aim-target.ensures.within)) (assumed e))
+      assumed = subst (AreAssumed c.args.assumptions.now) (sym c.learn.ensures.levels) (assumed_back c.args.assumptions.now c.self.inside.watch.levels c.aim-target.result.level (omega (arith, c.aim-target.ensures.within)) (assumed e));
     }
 
 pub returns-clause-turn : goal.returns-clause-turn
@@ -115,10 +115,11 @@ returns-clause-turn c =
     let d = (goal.at.returns-clause-turn c).In_ok-push in
     let e = (goal.at.returns-clause-turn c).After-facts in
     let same : c.self.inside.watch.clauses ≡ c.args.self.now.board.clauses = ap (λ b. b.clauses) (board e) in
-    let clause = c.push.new.self.items in
-    (clause,
+    let clause = c.push.new.self.items in (
+      clause,
       c.in_ok-learn.ensures.ok ∙ ap (λ s. s.learnt ++ c.as_slice-2.result.now ∷ []) c.self.view_is ∙ ap (λ x. c.args.self.now.learnt ++ x ∷ []) c.as_slice-2.ensures,
       subst (λ x. Follows x clause) same (follows_is d c.facts.ensures (ready_is e) (omega arith)),
       subst (λ x. ¬ IsAbsorbed x clause) same (new_is d c.facts.ensures (ready_is e) (omega arith)),
       subst (λ n. AreOver n clause) (ap (λ b. b.variables) (board e)) (over_is d c.facts.ensures (ready_is e) (omega arith)),
-      subst (λ x. ¬ Settles x c.args.assumptions.now) same (unsettled_levels c.self.inside.watch c.args.assumptions.now c.facts.ensures (ready_is e) (assumed e) (omega (arith, c.levels-level.ensures))))
+      subst (λ x. ¬ Settles x c.args.assumptions.now) same (unsettled_levels c.self.inside.watch c.args.assumptions.now c.facts.ensures (ready_is e) (assumed e) (omega (arith, c.levels-level.ensures))),
+    )

@@ -15,7 +15,7 @@ invariant_of-self-in-Err c =
 pub invariant_of-self-2 : goal.invariant_of-self-2
 invariant_of-self-2 c =
     IsEngine-learn c.self.inside.learnt_at.items c.push.new.self.items c.self.inside.watch c.add.new.self c.self.inside.marks c.self.inside.marks c.self.inside.refuted true [] c.count.result c.self.invariant c.count.ensures.len c.in_ok-push.ensures.items c.in_default.ensures.ok
-      (λ l h. absurd (omega (arith, h.1))) (subst (λ x. Follows x []) (sym (ap (λ s. s.board.clauses) c.self.view_is)) c.requires) (λ t. absurd (let z : true ≡ false = sym t ∙ c.add.ensures.ready in cc)) (inl (refl, refl))
+    (λ l h. absurd (omega (arith, h.1))) (subst (λ x. Follows x []) (sym (ap (λ s. s.board.clauses) c.self.view_is)) c.requires) (λ t. absurd (let z : true ≡ false = sym t ∙ c.add.ensures.ready in cc)) (inl (refl, refl))
 
 pub returns-clause-ok : goal.returns-clause-ok
 returns-clause-ok c = learnt_learn c.self.inside.learnt_at.items c.push.new.self.items c.self.inside.watch.clauses c.add.new.self.clauses [] c.count.result c.self.invariant.within c.count.ensures.len c.in_ok-push.ensures.items c.in_default.ensures.ok ∙ ap (λ s. s.learnt ++ [] ∷ []) c.self.view_is

@@ -17,15 +17,15 @@ turns-smaller c = left_falls c.args.assumptions.now c.args.self.now c.turns.self
 
 pub turns-preserved : goal.turns-preserved
 turns-preserved c = record {
-    ready = c.turn.ensures.ready;
-    added = c.turn.ensures.added ∙ c.turns.invariant.added;
-    variables = c.turn.ensures.variables ∙ c.turns.invariant.variables;
-    searched = on (goal.at.turns-preserved c).In-Learnt
-  }
+  ready = c.turn.ensures.ready;
+  added = c.turn.ensures.added ∙ c.turns.invariant.added;
+  variables = c.turn.ensures.variables ∙ c.turns.invariant.variables;
+  searched = on (goal.at.turns-preserved c).In-Learnt;
+}
 
 pub returns-in-Whole-clause-whole : goal.returns-in-Whole-clause-whole
 returns-in-Whole-clause-whole c = λ e.
     let turn = subst (IsTurn c.args.assumptions.now c.turns.self c.turn.new.self) c.in-Whole.is c.in_ok-turn.ensures.turn in
     let whole : IsWhole c.args.assumptions.now c.turn.new.self.board = turn.1 in
     unsettled_before c.args.assumptions.now c.args.self.now c.turn.new.self c.turn.new.self (searched_same c.args.assumptions.now c.args.self.now c.turns.self c.turn.new.self c.turns.invariant.searched turn.0)
-      c.facts-in-Whole.ensures (c.turn.ensures.added ∙ c.turns.invariant.added) (unsettled_whole c.turn.new.self.board c.args.assumptions.now c.facts-in-Whole.ensures.kept whole)
+    c.facts-in-Whole.ensures (c.turn.ensures.added ∙ c.turns.invariant.added) (unsettled_whole c.turn.new.self.board c.args.assumptions.now c.facts-in-Whole.ensures.kept whole)

@@ -9,7 +9,7 @@ invariant-turns l = record {
   ready : IsReady l.assumptions l.self;
   added : l.self.added ≡ l.initial.self.added;
   variables : l.self.board.variables ≡ l.initial.self.board.variables;
-  searched : IsSearched l.assumptions l.initial.self l.self
+  searched : IsSearched l.assumptions l.initial.self l.self;
 }
 
 abbrev pub decreases-turns : goal.decreases-turns

@@ -20,7 +20,6 @@ invariant_of-self-in-Some c = kept (goal.at.invariant_of-self-in-Some c).After-p
 pub invariant_of-self-in-None : goal.invariant_of-self-in-None
 invariant_of-self-in-None c = kept (goal.at.invariant_of-self-in-None c).After-propagate
 
-
 -- the search after propagation
 mid : (c : After-propagate) → Search
 mid c = record { added = added_of c.self.inside.learnt_at.items c.propagate.new.self.clauses; learnt = learnt_of c.self.inside.learnt_at.items c.propagate.new.self.clauses; board = c.propagate.new.self; marked = length c.self.inside.marks }
@@ -29,8 +28,8 @@ seen_before : (c : After-propagate) (new : Search) (t : Turn) → IsTurn c.args.
 unfolding mid
 seen_before c new t is =
     turn_before c.args.assumptions.now c.args.self.now (mid c) new t (ap (learnt_of c.self.inside.learnt_at.items) c.propagate.ensures.clauses ∙ ap (λ s. s.learnt) c.self.view_is)
-      (c.propagate.ensures.clauses ∙ ap (λ s. s.board.clauses) c.self.view_is) (c.propagate.ensures.variables ∙ ap (λ s. s.board.variables) c.self.view_is) (c.propagate.ensures.levels ∙ ap (λ s. s.board.levels) c.self.view_is)
-      (omega (arith, c.propagate.ensures.grown.longer, ap (λ s. length s.board.past.literals) c.self.view_is)) is
+    (c.propagate.ensures.clauses ∙ ap (λ s. s.board.clauses) c.self.view_is) (c.propagate.ensures.variables ∙ ap (λ s. s.board.variables) c.self.view_is) (c.propagate.ensures.levels ∙ ap (λ s. s.board.levels) c.self.view_is)
+    (omega (arith, c.propagate.ensures.grown.longer, ap (λ s. length s.board.past.literals) c.self.view_is)) is
 
 pub returns-in_ok-meet_conflict-in-Some-clause-turn : goal.returns-in_ok-meet_conflict-in-Some-clause-turn
 unfolding mid

@@ -1,8 +1,8 @@
-use Rattle.std.proofs.Common.{◌≡◌, ◌≤◌, ◌<◌, ◌*◌, ◌+◌, ℕ, sym, ap, ◌∙◌, arith, length, false, true, List, ◌++◌, ◌∷◌, []}
-use Rattle.std.specs.Prelude.{ℤ, nat_abs, Contains}
+use Rattle.std.proofs.Common.{◌≡◌, ◌≤◌, ◌*◌, ◌+◌, sym, ap, ◌∙◌, arith, length, false, ◌++◌, ◌∷◌, []}
+use Rattle.std.specs.Prelude.{nat_abs}
 use Rattle.std.proofs.lemmas.List.{length-map}
 use Rattle.l2_cnf.specs.Trail.{AreOver}
-use Rattle.l2_watch.specs.Visit.{items_of, list_of}
+use Rattle.l2_watch.specs.Visit.{items_of}
 use Rattle.l2_watch.specs.Board.{AreStored}
 use Rattle.l2_watch.proofs.Boards.{IsKept-more, IsKept-attach, AreStored-attach, code_in, pair_over, over_more}
 use Rattle.l2_watch.proofs.board.Watch.add.Goals as goal
@@ -30,8 +30,8 @@ pub invariant_of-self : goal.invariant_of-self
 invariant_of-self c =
     let was = c.self.inside in
     rw ((c.in_err-attach.ensures.same).0, (c.in_err-attach.ensures.same).1)
-      (IsKept-more was.clauses was.variables was.pairs.items (items_of was.lists.items) (items_of c.attach.new.lists.items) was.history was.levels.items was.seen was.ready c.self.invariant c.attach.ensures.more
-        (omega (arith, c.attach.ensures.len, length-map was.lists.items (λ v. v.items), length-map c.attach.new.lists.items (λ v. v.items))))
+    (IsKept-more was.clauses was.variables was.pairs.items (items_of was.lists.items) (items_of c.attach.new.lists.items) was.history was.levels.items was.seen was.ready c.self.invariant c.attach.ensures.more
+    (omega (arith, c.attach.ensures.len, length-map was.lists.items (λ v. v.items), length-map c.attach.new.lists.items (λ v. v.items))))
 
 pub invariant_of-self-2 : goal.invariant_of-self-2
 invariant_of-self-2 c =
@@ -40,7 +40,7 @@ invariant_of-self-2 c =
     let told = c.in_ok-attach.ensures in
     let idle : was.ready ≡ false = ap (λ b. b.ready) c.self.view_is ∙ c.cover.ensures.ready c.reset.ensures.ready in
     let stored : AreStored (was.clauses ++ c.args.clause.now ∷ []) was.variables (was.pairs.items ++ c.first_pair.result ∷ []) (items_of c.attach.new.lists.items) =
-      AreStored-attach was.clauses was.variables was.pairs.items (items_of was.lists.items) (items_of c.attach.new.lists.items) c.args.clause.now c.first_pair.result c.self.invariant.stored (over d) c.first_pair.ensures.pair c.attach.ensures.more
-        (length-map c.attach.new.lists.items (λ v. v.items) ∙ c.attach.ensures.len ∙ sym (length-map was.lists.items (λ v. v.items))) told.found.0 told.found.1 in
+    AreStored-attach was.clauses was.variables was.pairs.items (items_of was.lists.items) (items_of c.attach.new.lists.items) c.args.clause.now c.first_pair.result c.self.invariant.stored (over d) c.first_pair.ensures.pair c.attach.ensures.more
+    (length-map c.attach.new.lists.items (λ v. v.items) ∙ c.attach.ensures.len ∙ sym (length-map was.lists.items (λ v. v.items))) told.found.0 told.found.1 in
     IsKept-attach was.clauses c.attach.new.clauses was.variables was.pairs.items c.attach.new.pairs.items (items_of was.lists.items) (items_of c.attach.new.lists.items) was.history was.levels.items was.seen was.ready c.args.clause.now c.self.invariant idle
-      (rw (told.clauses, told.pairs) stored) told.clauses
+    (rw (told.clauses, told.pairs) stored) told.clauses

@@ -1,4 +1,4 @@
-use Rattle.std.proofs.Common.{◌≡◌, ℕ, sym, subst, arith}
+use Rattle.std.proofs.Common.{subst, arith}
 use Rattle.l2_watch.specs.Visit.{items_of}
 use Rattle.l2_watch.specs.Board.{IsBoard}
 use Rattle.l2_watch.proofs.Boards.{IsBoard-from}

@@ -1,6 +1,5 @@
-use Rattle.std.proofs.Common.{◌≡◌, ◌≤◌, ◌<◌, ◌+◌, ℕ, sym, ap, ◌∙◌, arith, length, true, refl, List, subst}
-use Rattle.std.specs.Prelude.{ℤ}
-use Rattle.l2_watch.specs.Past.{Past, IsGrown}
+use Rattle.std.proofs.Common.{◌∙◌, refl, subst}
+use Rattle.l2_watch.specs.Past.{IsGrown}
 use Rattle.l2_watch.proofs.Pasts.{IsGrown-none, IsGrown-then}
 use Rattle.l2_watch.proofs.board.Watch.propagate.Goals as goal
 use Rattle.l2_watch.proofs.board.Watch.propagate.Goals.{After-round}
@@ -19,9 +18,9 @@ returns-in-Some-clause-grown c = grown (goal.at.returns-in-Some-clause-grown c).
 
 pub loop-self-preserved : goal.loop-self-preserved
 loop-self-preserved c = record {
-    clauses = c.round.ensures.clauses ∙ c.loop-self.invariant.clauses;
-    variables = c.round.ensures.variables ∙ c.loop-self.invariant.variables;
-    levels = c.round.ensures.levels ∙ c.loop-self.invariant.levels;
-    ready = c.round.ensures.ready;
-    grown = grown (goal.at.loop-self-preserved c).After-round
-  }
+  clauses = c.round.ensures.clauses ∙ c.loop-self.invariant.clauses;
+  variables = c.round.ensures.variables ∙ c.loop-self.invariant.variables;
+  levels = c.round.ensures.levels ∙ c.loop-self.invariant.levels;
+  ready = c.round.ensures.ready;
+  grown = grown (goal.at.loop-self-preserved c).After-round;
+}

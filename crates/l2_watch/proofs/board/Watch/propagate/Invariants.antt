@@ -1,4 +1,4 @@
-use Rattle.std.proofs.Common.{◌≡◌, ◌≤◌, ◌-◌, ℕ, length, true}
+use Rattle.std.proofs.Common.{◌≡◌, ◌-◌, true}
 use Rattle.l2_watch.specs.Past.{IsGrown}
 use Rattle.l2_watch.proofs.board.Watch.propagate.Given as goal
 
@@ -8,7 +8,7 @@ invariant-loop-self l = record {
   variables : l.self.variables ≡ l.initial.self.variables;
   levels : l.self.levels ≡ l.initial.self.levels;
   ready : l.self.ready ≡ true;
-  grown : IsGrown l.initial.self.clauses l.initial.self.past l.self.past
+  grown : IsGrown l.initial.self.clauses l.initial.self.past l.self.past;
 }
 
 abbrev pub decreases-loop-self : goal.decreases-loop-self

@@ -1,7 +1,5 @@
-use Rattle.std.proofs.Common.{◌≡◌, ◌≤◌, ◌<◌, ℕ, sym, ap, ◌∙◌, arith, length, get_or, true, subst, List}
-use Rattle.std.specs.Prelude.{ℤ, pos}
+use Rattle.std.proofs.Common.{◌≡◌, sym, ap, ◌∙◌, subst}
 use Rattle.l2_cnf.specs.Trail.{AreOver}
-use Rattle.l2_watch.proofs.Boards.{IsKept-raised}
 use Rattle.l2_watch.proofs.board.Watch.raise_all.Goals as goal
 
 pub raise-requires-clause-over : goal.raise-requires-clause-over

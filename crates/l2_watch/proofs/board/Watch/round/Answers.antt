@@ -1,13 +1,11 @@
-use Rattle.std.proofs.Common.{◌≡◌, ◌≤◌, ◌<◌, ◌+◌, ◌*◌, [], ℕ, sym, ap, ◌∙◌, arith, length, true, refl, List, subst, get_or, set, take, Ok, None}
-use Rattle.std.specs.Prelude.{ℤ, pos, nat_abs, neg_ℤ, Contains}
+use Rattle.std.proofs.Common.{◌≡◌, ◌≤◌, ◌<◌, ◌+◌, [], ℕ, sym, ap, ◌∙◌, arith, length, true, subst, get_or, set, take, Ok, None}
+use Rattle.std.specs.Prelude.{pos, nat_abs, neg_ℤ, Contains}
 use Rattle.std.proofs.lemmas.List.{length-map, map-set, get_or-map, get_or_default, length-set}
 use lib.IntN.{neg_ℤ-neg_ℤ}
 use Rattle.l2_cnf.specs.Lit.{code_of}
 use Rattle.l2_cnf.proofs.Laws.{nat_abs-neg_ℤ}
-use Rattle.l2_watch.specs.Past.{Past, IsGrown}
-use Rattle.l2_watch.specs.Visit.{items_of, list_of, pair_of, ArePairs, AreFound, AreVisited, AreGuarded}
-use Rattle.l2_watch.specs.Watch.{IsConsistent}
-use Rattle.l2_watch.specs.Board.{IsKept, AreStored, AreWatched}
+use Rattle.l2_watch.specs.Visit.{items_of, list_of, ArePairs, AreFound, AreVisited, AreGuarded}
+use Rattle.l2_watch.specs.Board.{IsKept, AreWatched}
 use Rattle.l2_watch.proofs.Moves.{code_within}
 use Rattle.l2_watch.proofs.Pasts.{grown_part, part_same}
 use Rattle.l2_watch.proofs.Rounds.{found_without, visited_none, guarded_next}
@@ -59,7 +57,7 @@ pub visit_list-answer-requires-clause-found : goal.visit_list-answer-requires-cl
 visit_list-answer-requires-clause-found c =
     let was = c.self.inside in
     let new : items_of (set was.lists.items c.code-code.result c.replace-list.new.dest) ≡ set (items_of was.lists.items) (code_of c.negated-a.result) [] =
-      map-set (λ v. v.items) was.lists.items c.code-code.result c.replace-list.new.dest ∙ ap (λ x. set (items_of was.lists.items) c.code-code.result x) (ap (λ v. v.items) c.replace-list.ensures.after ∙ c.new.ensures.items) ∙ ap (λ k. set (items_of was.lists.items) k []) c.code-code.ensures.code in
+    map-set (λ v. v.items) was.lists.items c.code-code.result c.replace-list.new.dest ∙ ap (λ x. set (items_of was.lists.items) c.code-code.result x) (ap (λ v. v.items) c.replace-list.ensures.after ∙ c.new.ensures.items) ∙ ap (λ k. set (items_of was.lists.items) k []) c.code-code.ensures.code in
     subst (λ x. AreFound was.pairs.items x c.negated-a.result) (sym new) (found_without was.pairs.items (items_of was.lists.items) c.negated-a.result c.self.invariant.stored.found)
 
 pub visit_list-answer-requires-clause-visited : goal.visit_list-answer-requires-clause-visited
@@ -67,7 +65,7 @@ visit_list-answer-requires-clause-visited c =
     let was = c.self.inside in
     let d = (goal.at.visit_list-answer-requires-clause-visited c).After-code-code in
     let taken : list_of (items_of was.lists.items) c.negated-a.result ≡ c.replace-list.result.items =
-      ap (λ k. get_or (items_of was.lists.items) k []) (sym c.code-code.ensures.code) ∙ get_or-map (λ v. v.items) was.lists.items c.code-code.result c.index_mut.result.now [] (fits d) ∙ ap (λ v. v.items) (sym c.index_mut.ensures.value) ∙ ap (λ v. v.items) (sym c.replace-list.ensures.value) in
+    ap (λ k. get_or (items_of was.lists.items) k []) (sym c.code-code.ensures.code) ∙ get_or-map (λ v. v.items) was.lists.items c.code-code.result c.index_mut.result.now [] (fits d) ∙ ap (λ v. v.items) (sym c.index_mut.ensures.value) ∙ ap (λ v. v.items) (sym c.replace-list.ensures.value) in
     subst (λ x. AreVisited was.pairs.items was.history.literals c.negated-a.result [] x) taken (visited_none was.pairs.items (items_of was.lists.items) was.history.literals c.negated-a.result c.self.invariant.stored.found)
 
 -- the lists were as many
@@ -90,8 +88,8 @@ kept c is over seen looked guarded =
     let was = c.self.inside in
     let now = c.visit_list-answer.new in
     subst (λ x. IsKept was.clauses was.variables now.pairs.items x now.history was.levels.items seen was.ready) (sym (back_is c))
-      (kept_round was.clauses was.variables was.pairs.items now.pairs.items (items_of was.lists.items) (items_of now.lists.items) now.list.items was.history now.history was.levels.items was.seen seen was.ready c.negated-a.result c.self.invariant is over (same_count c)
-        c.visit_list-answer.ensures.grown c.visit_list-answer.ensures.pairs c.visit_list-answer.ensures.found c.visit_list-answer.ensures.listed c.visit_list-answer.ensures.parts looked guarded)
+    (kept_round was.clauses was.variables was.pairs.items now.pairs.items (items_of was.lists.items) (items_of now.lists.items) now.list.items was.history now.history was.levels.items was.seen seen was.ready c.negated-a.result c.self.invariant is over (same_count c)
+    c.visit_list-answer.ensures.grown c.visit_list-answer.ensures.pairs c.visit_list-answer.ensures.found c.visit_list-answer.ensures.listed c.visit_list-answer.ensures.parts looked guarded)
 
 still : (c : After-visit_list-answer) → c.self.inside.seen < length c.self.inside.history.literals → (take c.self.inside.seen c.visit_list-answer.new.history.literals ≡ take c.self.inside.seen c.self.inside.history.literals) × (c.self.inside.seen < length c.visit_list-answer.new.history.literals)
 still c h = (grown_part c.self.inside.clauses c.self.inside.history c.visit_list-answer.new.history c.self.inside.seen c.visit_list-answer.ensures.grown (omega (arith, h)), omega (arith, h, c.visit_list-answer.ensures.grown.longer))
@@ -106,10 +104,10 @@ invariant_of-self-in-None c =
     let now = c.visit_list-answer.new in
     let seen : ℕ = c.self.inside.seen in
     let here : get_or now.history.literals seen (pos 0) ≡ neg_ℤ c.negated-a.result =
-      part_same (length c.self.inside.history.literals) c.self.inside.history.literals now.history.literals c.visit_list-answer.ensures.grown.literals seen (more d) ∙ away d in
+    part_same (length c.self.inside.history.literals) c.self.inside.history.literals now.history.literals c.visit_list-answer.ensures.grown.literals seen (more d) ∙ away d in
     let none : c.visit_list-answer.result ≡ Ok None = c.in_ok-r.was ∙ ap Ok c.in-None.is in
     kept e (ready d) (within d) (seen + 1) (omega (arith, (still e (more d)).1))
-      (guarded_next now.pairs.items now.history.literals seen c.negated-a.result now.list.items (still e (more d)).1 here (guarded_still e (more d)) (c.visit_list-answer.ensures.none none))
+    (guarded_next now.pairs.items now.history.literals seen c.negated-a.result now.list.items (still e (more d)).1 here (guarded_still e (more d)) (c.visit_list-answer.ensures.none none))
 
 pub invariant_of-self-in-Some : goal.invariant_of-self-in-Some
 invariant_of-self-in-Some c =
