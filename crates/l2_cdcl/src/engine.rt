@@ -255,9 +255,25 @@ impl Engine {
         let u = self.watch.literal(point).negated();
         let target = aim(&self.watch, at.start, aside.as_slice(), u);
         aside.push(u)?;
-        self.order.decay();
+        let anew = self.order.decay();
         self.learn(aside.as_slice(), u, target)?;
+        self.restart(anew, assumptions.len());
         Ok(Turn::Learnt)
+    }
+
+    // Goes back to the assumptions, if the search is to begin anew.
+    fn restart(&mut self, anew: bool, level: usize)
+        requires { self.old.board.ready ≡ true }
+        ensures added { self.new.added ≡ self.old.added }
+        ensures learnt { self.new.learnt ≡ self.old.learnt }
+        ensures variables { self.new.board.variables ≡ self.old.board.variables }
+        ensures ready { self.new.board.ready ≡ true }
+        ensures levels { (n : ℕ) × (n ≤ length self.old.board.levels) × (self.new.board.levels ≡ take n self.old.board.levels) }
+    {
+        if anew && level < self.watch.levels() {
+            release(&self.watch, &mut self.order, level);
+            self.watch.back(level);
+        }
     }
 
     // Goes back to the level of a clause, learns it there and makes u true.

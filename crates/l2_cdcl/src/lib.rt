@@ -4,6 +4,7 @@
 mod analysis;
 mod answer;
 mod engine;
+mod heap;
 mod marks;
 mod model;
 mod order;

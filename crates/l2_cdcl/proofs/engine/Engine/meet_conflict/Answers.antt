@@ -104,10 +104,13 @@ returns-in_err-learn-clause-ready c =
 pub returns-clause-ready : goal.returns-clause-ready
 returns-clause-ready c =
     let e = (goal.at.returns-clause-ready c).After-facts in
+    let first = assumed_back c.args.assumptions.now c.self.inside.watch.levels c.aim-target.result.level (omega (arith, c.aim-target.ensures.within)) (assumed e) in
+    let second = subst (AreAssumed c.args.assumptions.now) (sym c.learn.ensures.levels) first in
+    let (n, within, back) = c.restart.ensures.levels in
     record {
-      ready = c.learn.ensures.still;
-      over = subst (λ n. AreOver n c.args.assumptions.now) (sym (c.learn.ensures.variables ∙ ap (λ b. b.variables) (board e))) c.requires.ready.over;
-      assumed = subst (AreAssumed c.args.assumptions.now) (sym c.learn.ensures.levels) (assumed_back c.args.assumptions.now c.self.inside.watch.levels c.aim-target.result.level (omega (arith, c.aim-target.ensures.within)) (assumed e));
+      ready = c.restart.ensures.ready;
+      over = subst (λ n. AreOver n c.args.assumptions.now) (sym (c.restart.ensures.variables ∙ c.learn.ensures.variables ∙ ap (λ b. b.variables) (board e))) c.requires.ready.over;
+      assumed = subst (AreAssumed c.args.assumptions.now) (sym back) (assumed_back c.args.assumptions.now c.learn.new.self.board.levels n within second)
     }
 
 pub returns-clause-turn : goal.returns-clause-turn
@@ -117,7 +120,7 @@ returns-clause-turn c =
     let same : c.self.inside.watch.clauses ≡ c.args.self.now.board.clauses = ap (λ b. b.clauses) (board e) in
     let clause = c.push.new.self.items in (
       clause,
-      c.in_ok-learn.ensures.ok ∙ ap (λ s. s.learnt ++ c.as_slice-2.result.now ∷ []) c.self.view_is ∙ ap (λ x. c.args.self.now.learnt ++ x ∷ []) c.as_slice-2.ensures,
+      c.restart.ensures.learnt ∙ c.in_ok-learn.ensures.ok ∙ ap (λ s. s.learnt ++ c.as_slice-2.result.now ∷ []) c.self.view_is ∙ ap (λ x. c.args.self.now.learnt ++ x ∷ []) c.as_slice-2.ensures,
       subst (λ x. Follows x clause) same (follows_is d c.facts.ensures (ready_is e) (omega arith)),
       subst (λ x. ¬ IsAbsorbed x clause) same (new_is d c.facts.ensures (ready_is e) (omega arith)),
       subst (λ n. AreOver n clause) (ap (λ b. b.variables) (board e)) (over_is d c.facts.ensures (ready_is e) (omega arith)),
