@@ -4,6 +4,6 @@ use Rattle.l2_cdcl.proofs.engine.Engine.is_refuted.Goals as goal
 
 pub returns : goal.returns
 returns c = (
-    (λ t. subst (λ s. Contains s.learnt []) c.self.view_is (c.self.invariant.found t)),
-    (λ h. c.self.invariant.told (subst (λ s. Contains s.learnt []) (sym c.self.view_is) h))
-  )
+  (λ t. subst (λ s. Contains s.learnt []) c.self.view_is (c.self.invariant.found t)),
+  (λ h. c.self.invariant.told (subst (λ s. Contains s.learnt []) (sym c.self.view_is) h)),
+)

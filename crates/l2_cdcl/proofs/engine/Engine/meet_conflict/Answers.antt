@@ -110,7 +110,7 @@ returns-clause-ready c =
     record {
       ready = c.restart.ensures.ready;
       over = subst (λ n. AreOver n c.args.assumptions.now) (sym (c.restart.ensures.variables ∙ c.learn.ensures.variables ∙ ap (λ b. b.variables) (board e))) c.requires.ready.over;
-      assumed = subst (AreAssumed c.args.assumptions.now) (sym back) (assumed_back c.args.assumptions.now c.learn.new.self.board.levels n within second)
+      assumed = subst (AreAssumed c.args.assumptions.now) (sym back) (assumed_back c.args.assumptions.now c.learn.new.self.board.levels n within second);
     }
 
 pub returns-clause-turn : goal.returns-clause-turn
