@@ -1,0 +1,10 @@
+pub mod BitLaws
+pub mod Bounds
+pub mod Checks
+pub mod Congruences
+pub mod OperatorValues
+pub mod Products
+pub mod Quotients
+pub mod Residues
+pub mod TypeLaws
+pub mod Wraps

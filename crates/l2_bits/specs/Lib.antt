@@ -1,0 +1,5 @@
+pub mod Bits
+pub mod Operators
+pub mod Types
+pub mod Values
+pub mod Widths

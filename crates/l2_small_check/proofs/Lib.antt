@@ -1,0 +1,7 @@
+pub mod Kept
+pub mod Lookups
+pub mod Places
+pub mod Rows
+pub mod Spelt
+pub mod Steps
+pub mod Weights

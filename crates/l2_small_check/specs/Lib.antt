@@ -1,0 +1,4 @@
+pub mod Elaboration
+pub mod Tables
+pub mod Founds
+pub mod Spelling

@@ -1,0 +1,83 @@
+// Trees, made of their parts.
+ghost use Rattle.std.specs.Prelude.{◌≡◌, IfOk, IfErr};
+ghost use Rattle.l2_bits.specs.Types.{int_type};
+ghost use Rattle.l2_syntax.specs.Checked.{Unary, Binary, Assign, Assert, Evaluate, If, IfElse, While, Object, typed_tree, checked_tree};
+ghost use Rattle.l2_small_check.specs.declared.error.CheckError.TheVariants.{NoMemory};
+
+use crate::error::CheckError;
+use l2_bits::Ty;
+use l2_syntax::{BinaryOperator, Checked, Lvalue, Typed, UnaryOperator};
+use std::alloc::Global;
+
+/// An operator of `int` on its operand.
+pub fn unary(alloc: Global, operator: UnaryOperator, operand: Typed) -> Result<Typed, CheckError>
+    ensures ok { IfOk result (λ t. typed_tree t ≡ Unary operator int_type (typed_tree operand)) }
+    ensures err { IfErr result (λ f. f ≡ NoMemory) }
+{
+    Ok(Typed::Unary(operator, Ty::INT, Box::new(alloc, operand)?))
+}
+
+/// An operator of `int` on its operands.
+pub fn binary(
+    alloc: Global,
+    operator: BinaryOperator,
+    left: Typed,
+    right: Typed,
+) -> Result<Typed, CheckError>
+    ensures ok { IfOk result (λ t. typed_tree t ≡ Binary operator int_type (typed_tree left) (typed_tree right)) }
+    ensures err { IfErr result (λ f. f ≡ NoMemory) }
+{
+    Ok(Typed::Binary(
+        operator,
+        Ty::INT,
+        Box::new(alloc, left)?,
+        Box::new(alloc, right)?,
+    ))
+}
+
+/// `object = value;`.
+pub fn assignment(alloc: Global, object: u32, value: Typed) -> Result<Checked, CheckError>
+    ensures ok { IfOk result (λ s. checked_tree s ≡ Evaluate (Assign (Object object) (typed_tree value))) }
+    ensures err { IfErr result (λ f. f ≡ NoMemory) }
+{
+    Ok(Checked::Evaluate(Typed::Assign(Lvalue::Object(object), Box::new(alloc, value)?)))
+}
+
+/// `assert(test);`.
+pub fn assertion(alloc: Global, check: u32, test: Typed) -> Result<Checked, CheckError>
+    ensures ok { IfOk result (λ s. checked_tree s ≡ Evaluate (Assert check (typed_tree test))) }
+    ensures err { IfErr result (λ f. f ≡ NoMemory) }
+{
+    Ok(Checked::Evaluate(Typed::Assert(check, Box::new(alloc, test)?)))
+}
+
+pub fn if_then(alloc: Global, test: Typed, body: Checked) -> Result<Checked, CheckError>
+    ensures ok { IfOk result (λ s. checked_tree s ≡ If (typed_tree test) (checked_tree body)) }
+    ensures err { IfErr result (λ f. f ≡ NoMemory) }
+{
+    Ok(Checked::If(test, Box::new(alloc, body)?))
+}
+
+pub fn if_else(
+    alloc: Global,
+    test: Typed,
+    body: Checked,
+    other: Checked,
+) -> Result<Checked, CheckError>
+    ensures ok { IfOk result (λ s. checked_tree s ≡ IfElse (typed_tree test) (checked_tree body) (checked_tree other)) }
+    ensures err { IfErr result (λ f. f ≡ NoMemory) }
+{
+    Ok(Checked::IfElse(test, Box::new(alloc, body)?, Box::new(alloc, other)?))
+}
+
+pub fn while_loop(
+    alloc: Global,
+    number: u32,
+    test: Typed,
+    body: Checked,
+) -> Result<Checked, CheckError>
+    ensures ok { IfOk result (λ s. checked_tree s ≡ While number (typed_tree test) (checked_tree body)) }
+    ensures err { IfErr result (λ f. f ≡ NoMemory) }
+{
+    Ok(Checked::While(number, test, Box::new(alloc, body)?))
+}

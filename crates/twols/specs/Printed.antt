@@ -1,0 +1,25 @@
+-- The line that is printed for an execution.
+use Rattle.std.specs.Prelude.{ℕ, ◌-◌, List, ◌++◌, codes, decimal, Option, Some, None, slice_get}
+use Rattle.l2_syntax.specs.declared.program.CheckInfo.{CheckInfo}
+use Rattle.l2_syntax.specs.Kinds.{kind_text}
+use Rattle.l2_syntax.specs.Places.{place_text}
+use Rattle.l2_meaning.specs.declared.outcome.Outcome.{Outcome}
+use Rattle.l2_meaning.specs.declared.outcome.Outcome.TheVariants.{Ended, Stopped, Broken, OutOfChoices, OutOfTurns}
+use Rattle.l2_meaning.specs.Execution.{Execution}
+
+-- a broken check, by its kind and its place
+abbrev pub broken_text : Option CheckInfo → List ℕ
+broken_text None = codes "BROKEN"
+broken_text (Some c) = codes "BROKEN " ++ kind_text c.kind ++ codes " " ++ place_text c.place
+
+-- the outcome, where these are the program's checks, numbered from 1
+abbrev pub outcome_text : List CheckInfo → Outcome → List ℕ
+outcome_text checks Ended = codes "ENDED"
+outcome_text checks Stopped = codes "STOPPED"
+outcome_text checks (Broken c) = broken_text (slice_get checks (c - 1))
+outcome_text checks OutOfChoices = codes "OUT OF CHOICES"
+outcome_text checks OutOfTurns = codes "OUT OF TURNS"
+
+abbrev pub replay_line : List CheckInfo → Execution → List ℕ
+replay_line checks e =
+    outcome_text checks e.outcome ++ codes " turns=" ++ decimal e.turns_used ++ codes " choices=" ++ decimal e.choices_used ++ codes "\n"
