@@ -1,0 +1,18 @@
+//! A conflict-driven clause learning solver.
+#![tactic(auto)]
+
+mod analysis;
+mod answer;
+mod engine;
+mod heap;
+mod marks;
+mod model;
+mod order;
+mod solve;
+mod solver;
+mod target;
+#[cfg(test)]
+mod tests;
+
+pub use answer::{Answer, Core};
+pub use solver::Solver;

@@ -1,0 +1,52 @@
+ghost use Rattle.std.specs.Prelude.{◌≡◌, ◌≢◌, ◌⊎◌, ◌≤◌, ◌<◌, ◌^◌, ◌+◌, ◌*◌, ◌++◌, ◌∷◌, [], ℕ, ℤ, pos, neg_ℤ, nat_abs, List, length, take, IfOk, OnOk, OnErr, IsTrue, ◌↔◌, Contains, slice_index_or, MatchOption, MatchBool};
+ghost use Rattle.l2_cnf.specs.Trail.{AreOver};
+ghost use Rattle.l2_watch.specs.Past.{Past, IsGrown};
+ghost use Rattle.l2_watch.specs.Watch.{IsPair};
+ghost use Rattle.l2_watch.specs.Visit.{pair_of, IsRaised, AreFalse};
+
+use crate::history::History;
+use l2_cnf::{ClauseList, Lit};
+
+/// Makes the literal of a clause that has one true. It answers whether the clause has only literals that are false.
+fn raise_one(clauses: &ClauseList, history: &mut History, pair: (Lit, Lit), r: u64) -> bool
+    requires within { r < length clauses.now }
+    requires pair { (slice_index_or clauses.now r [] ≡ []) ⊎ IsPair (slice_index_or clauses.now r []) pair.0 pair.1 }
+    requires over { AreOver history.old.variables (slice_index_or clauses.now r []) }
+    requires count { length history.old.reasons ≡ length history.old.literals }
+    ensures grown { IsGrown clauses.now history.old history.new }
+    ensures cases { MatchBool result (AreFalse history.new.literals (slice_index_or clauses.now r [])) (IsRaised (slice_index_or clauses.now r []) history.new.literals pair) }
+{
+    let clause = clauses.clause(r);
+    if clause.is_empty() {
+        return true;
+    }
+    let single = pair.0 == pair.1;
+    if !single || history.is_true(pair.0) {
+        return false;
+    }
+    if history.is_false(pair.0) {
+        return true;
+    }
+    let _count = clauses.len();
+    history.push(pair.0, r + 1);
+    false
+}
+
+/// Makes the literal of each clause that has one true. It answers a clause whose literals are all false, if it comes upon one.
+pub fn raise(clauses: &ClauseList, pairs: &[(Lit, Lit)], history: &mut History) -> Option<u64>
+    requires count { length pairs.now ≡ length clauses.now }
+    requires pair { (r : ℕ) → r < length clauses.now → (slice_index_or clauses.now r [] ≡ []) ⊎ IsPair (slice_index_or clauses.now r []) (pair_of pairs.now r).0 (pair_of pairs.now r).1 }
+    requires over { (clause : List ℤ) → Contains clauses.now clause → AreOver history.old.variables clause }
+    requires reasons { length history.old.reasons ≡ length history.old.literals }
+    ensures grown { IsGrown clauses.now history.old history.new }
+    ensures cases { MatchOption result
+        ((r : ℕ) → r < length clauses.now → IsRaised (slice_index_or clauses.now r []) history.new.literals (pair_of pairs.now r))
+        (λ r. (r < length clauses.now) × AreFalse history.new.literals (slice_index_or clauses.now r [])) }
+{
+    for r in 0..clauses.len() {
+        if raise_one(clauses, history, pairs[r as usize], r) {
+            return Some(r);
+        }
+    }
+    None
+}
