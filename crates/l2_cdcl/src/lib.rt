@@ -11,8 +11,6 @@ mod order;
 mod solve;
 mod solver;
 mod target;
-#[cfg(test)]
-mod tests;
 
 pub use answer::{Answer, Core};
 pub use solver::Solver;
