@@ -52,30 +52,48 @@ fn trial(alloc: Global, clauses: &[i64], assumptions: &[i64]) -> Result<String, 
     format!(in alloc; "{first}, {second}")
 }
 
-/// Five pigeons in four holes: pigeon p sits in hole h where 4p + h is true.
+/// The variable that says that this pigeon sits in this hole of the four.
+fn sits(pigeon: u8, hole: u8) -> i64 {
+    4 * i64::from(pigeon) + i64::from(hole)
+}
+
+/// Five pigeons in four holes.
 fn pigeons(alloc: Global) -> Result<String, AllocError> {
     let mut solver = Solver::new(alloc);
-    for p in 0..5 {
+    for p in 0..5u8 {
         add(
             alloc,
             &mut solver,
-            &[4 * p + 1, 4 * p + 2, 4 * p + 3, 4 * p + 4],
+            &[sits(p, 1), sits(p, 2), sits(p, 3), sits(p, 4)],
         )?;
         for q in 0..p {
-            for h in 1..5 {
-                add(alloc, &mut solver, &[-(4 * p + h), -(4 * q + h)])?;
-            }
+            apart(alloc, &mut solver, p, q)?;
         }
     }
     ask(alloc, &mut solver, &[])
 }
 
+/// Two pigeons sit in no hole together.
+fn apart(alloc: Global, solver: &mut Solver, p: u8, q: u8) -> Result<(), AllocError> {
+    for h in 1..5u8 {
+        let pair = [opposite(sits(p, h)), opposite(sits(q, h))];
+        add(alloc, solver, &pair)?;
+    }
+    Ok(())
+}
+
+/// The negated literal.
+fn opposite(literal: i64) -> i64 {
+    literal.wrapping_neg()
+}
+
 /// Two hundred variables, each other than the one before it; then the last one is asked for, and then demanded.
 fn chain(alloc: Global) -> Result<String, AllocError> {
     let mut solver = Solver::new(alloc);
-    for v in 1..200 {
-        add(alloc, &mut solver, &[v, v + 1])?;
-        add(alloc, &mut solver, &[-v, -v - 1])?;
+    for v in 1..200u8 {
+        let (this, next) = (i64::from(v), i64::from(v) + 1);
+        add(alloc, &mut solver, &[this, next])?;
+        add(alloc, &mut solver, &[opposite(this), opposite(next)])?;
     }
     let free = ask(alloc, &mut solver, &[1])?;
     let both = ask(alloc, &mut solver, &[1, 200])?;
