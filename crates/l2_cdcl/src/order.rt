@@ -15,28 +15,36 @@ pub struct Order {
     pace: Pace,
 }
 
-/// After how many conflicts the search begins anew.
+/// After how many conflicts the search begins anew: by turns a hundred times 1, 1, 2, 1, 1, 2, 4, 1, and so on. A turn of
+/// each length comes once the length before it has come twice.
 #[derive(Clone, Copy)]
 struct Pace {
     conflicts: u64,
-    inner: u64,
-    outer: u64,
+    round: u64,
+    length: u64,
 }
 
 impl Pace {
     // Counts a conflict. It answers whether the search is to begin anew.
     fn count(&mut self) -> bool {
         self.conflicts = self.conflicts.saturating_add(1);
-        if self.conflicts < self.inner {
+        if self.conflicts < self.length.saturating_mul(100) {
             return false;
         }
         self.conflicts = 0;
-        self.inner = self.inner.saturating_add(self.inner / 10);
-        if self.inner > self.outer {
-            self.outer = self.outer.saturating_add(self.outer / 10);
-            self.inner = 100;
-        }
+        self.lengthen();
         true
+    }
+
+    // Goes to the next length. The last one of a round is the greatest power of 2 that divides the round's number.
+    fn lengthen(&mut self) {
+        let double = self.length.saturating_mul(2);
+        if double == 0 || self.round % double == self.length {
+            self.round = self.round.saturating_add(1);
+            self.length = 1;
+        } else {
+            self.length = double;
+        }
     }
 }
 
@@ -47,8 +55,8 @@ impl Order {
             phases: Vec::new(alloc),
             pace: Pace {
                 conflicts: 0,
-                inner: 100,
-                outer: 100,
+                round: 1,
+                length: 1,
             },
         }
     }
