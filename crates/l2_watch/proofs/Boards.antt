@@ -32,11 +32,11 @@ apart_consistent n trail over apart l (i, h, e) (j, k, f) =
     ]
 
 -- guarded pairs close a trail
-pub stored_closed : (clauses : List (List ℤ)) (pairs : List (ℤ × ℤ)) (trail : List ℤ) → length pairs ≡ length clauses → ((r : ℕ) → r < length clauses → IsPair (get_or clauses r []) (pair_of pairs r).0 (pair_of pairs r).1) → IsConsistent trail → AreGuarded pairs trail trail → IsClosed clauses trail
+pub stored_closed : (clauses : List (List ℤ)) (pairs : List (ℤ × ℤ)) (trail : List ℤ) → length pairs ≡ length clauses → ((r : ℕ) → r < length clauses → IsPair (get_or clauses r []) (pair_of pairs r).0 (pair_of pairs r).1) → IsConsistent trail → AreGuarded clauses pairs trail trail → IsClosed clauses trail
 stored_closed clauses pairs trail count are consistent guarded = guards_close clauses trail consistent (λ clause (r, h, e).
     let p : ℤ × ℤ = pair_of pairs r in
     let same : get_or clauses r [] ≡ clause = get_or_default clauses r [] clause h ∙ e in
-    (p.0, p.1, subst (λ c. IsPair c p.0 p.1) same (are r h), guarded r (omega arith)))
+    (p.0, p.1, subst (λ c. IsPair c p.0 p.1) same (are r h), subst (λ c. IsGuarded c trail trail p.0 p.1) same (guarded r (omega arith))))
 
 -- a part of a consistent trail is consistent
 pub part_consistent : (trail : List ℤ) (b : ℕ) → b ≤ length trail → IsConsistent trail → IsConsistent (take b trail)
@@ -50,7 +50,7 @@ IsBoard-from b pairs lists kept most over apart count =
     let consistent = apart_consistent b.past.variables b.past.literals over apart in
     record {
       over = kept.stored.over;
-      small = kept.stored.small;
+      small = omega (arith, kept.stored.small);
       literals_over = λ l h. (let o = over l h in (o.0, omega (arith, o.1, kept.within)));
       apart = apart;
       consistent = consistent;
@@ -66,7 +66,7 @@ IsBoard-from b pairs lists kept most over apart count =
       closed = λ ready e.
           let w = kept.watched ready in
           let all : take b.seen b.past.literals ≡ b.past.literals = take_all b.seen b.past.literals (omega arith) in
-          stored_closed b.clauses pairs b.past.literals kept.stored.count (full_pair b.clauses b.variables pairs lists kept.stored w.full) consistent (subst (λ t. AreGuarded pairs t b.past.literals) all w.guarded);
+          stored_closed b.clauses pairs b.past.literals kept.stored.count (full_pair b.clauses b.variables pairs lists kept.stored w.full) consistent (subst (λ t. AreGuarded b.clauses pairs t b.past.literals) all w.guarded);
     }
 
 -- the lists have more
@@ -92,7 +92,7 @@ IsKept-more clauses n pairs lists lists' past levels seen ready kept more longer
 }
 
 -- more variables
-pub IsKept-cover : (clauses : List (List ℤ)) (n m : ℕ) (pairs : List (ℤ × ℤ)) (lists lists' : List (List ℕ)) (past : Past) (levels : List (ℕ × ℤ)) (seen : ℕ) (ready : Bool) → IsKept clauses n pairs lists past levels seen ready → AreMore lists lists' → length lists ≤ length lists' → n ≤ m → m < 2 ^ 62 → 2 * m + 2 ≤ length lists' → ready ≡ false → IsKept clauses m pairs lists' past levels seen ready
+pub IsKept-cover : (clauses : List (List ℤ)) (n m : ℕ) (pairs : List (ℤ × ℤ)) (lists lists' : List (List ℕ)) (past : Past) (levels : List (ℕ × ℤ)) (seen : ℕ) (ready : Bool) → IsKept clauses n pairs lists past levels seen ready → AreMore lists lists' → length lists ≤ length lists' → n ≤ m → m < 2 ^ 31 → 2 * m + 2 ≤ length lists' → ready ≡ false → IsKept clauses m pairs lists' past levels seen ready
 IsKept-cover clauses n m pairs lists lists' past levels seen ready kept more longer h small room idle =
     let stored = AreStored-more clauses n pairs lists lists' kept.stored more longer in
     record {
@@ -267,6 +267,25 @@ AreLevels-back literals levels level are h =
       held = λ i k. (let b : i < level = omega (arith, k, c) in rw (decision_part levels level i b) (are.made i level b h));
     }
 
+-- no clause, and no literal that is true
+pub IsKept-new : (clauses : List (List ℤ)) (pairs : List (ℤ × ℤ)) (lists : List (List ℕ)) (past : Past) (levels : List (ℕ × ℤ)) → clauses ≡ [] → pairs ≡ [] → 4 ≤ length lists → past.variables ≡ 1 → past.literals ≡ [] → levels ≡ [] → IsKept clauses 1 pairs lists past levels 0 false
+IsKept-new clauses pairs lists past levels ce pe room vars empty none = record {
+  stored = record {
+    count = omega (arith, ap length ce, ap length pe);
+    over = λ clause h. absurd (omega (arith, h.1, ap length ce));
+    pair = λ r h. absurd (omega (arith, h, ap length ce));
+    found = record { first = λ r h. absurd (omega (arith, h, ap length pe)); second = λ r h. absurd (omega (arith, h, ap length pe)) };
+    room = omega (arith, room);
+    some = omega arith;
+    small = omega arith;
+  };
+  within = omega (arith, vars);
+  looked = omega arith;
+  opened = rw none (AreLevels-none past.literals);
+  caused = λ k h. absurd (omega (arith, h, ap length empty));
+  watched = λ is. absurd (let t : true ≡ false = sym is in cc);
+}
+
 -- a literal is decided
 pub IsKept-decide : (clauses : List (List ℤ)) (n : ℕ) (pairs : List (ℤ × ℤ)) (lists : List (List ℕ)) (old new : Past) (levels : List (ℕ × ℤ)) (seen : ℕ) (ready : Bool) (l : ℤ)
     → IsKept clauses n pairs lists old levels seen ready → seen ≡ length old.literals → new.variables ≡ old.variables
@@ -298,10 +317,10 @@ IsKept-decide clauses n pairs lists old new levels seen ready l kept e vars same
           record {
             full = w.full;
             same = vars ∙ w.same;
-            guarded = λ r h. (let g = w.guarded r h in rw (part_of old.literals new.literals seen same (omega (arith, e))) (guard_more (take seen old.literals) old.literals new.literals (pair_of pairs r).0 (pair_of pairs r).1 more g));
+            guarded = λ r h. (let g = w.guarded r h in rw (part_of old.literals new.literals seen same (omega (arith, e))) (guard_more (get_or clauses r []) (take seen old.literals) old.literals new.literals (pair_of pairs r).0 (pair_of pairs r).1 more g));
             parts = λ j h. elim (cases_lt j (length levels)) [
               | inl b ↦ rw (start_before levels x j b, part_of old.literals new.literals (start_of levels j) same (kept.opened.within j b)) (w.parts j b)
-              | inr b ↦ (let s : j ≡ length levels = omega (arith, h, c) in rw (start_here levels x j s, same) (subst (λ t. AreGuarded pairs t old.literals) all w.guarded))
+              | inr b ↦ (let s : j ≡ length levels = omega (arith, h, c) in rw (start_here levels x j s, same) (subst (λ t. AreGuarded clauses pairs t old.literals) all w.guarded))
             ];
           };
     }
@@ -342,7 +361,7 @@ IsKept-back clauses n pairs lists old new levels levels' seen ready level s kept
 
 -- a round of propagation
 pub IsKept-grown : (clauses : List (List ℤ)) (n : ℕ) (pairs pairs' : List (ℤ × ℤ)) (lists lists' : List (List ℕ)) (old new : Past) (levels : List (ℕ × ℤ)) (seen seen' : ℕ) (ready : Bool)
-    → IsKept clauses n pairs lists old levels seen ready → ready ≡ true → AreStored clauses n pairs' lists' → IsGrown clauses old new → KeepsParts old.literals pairs pairs' → seen' ≤ length new.literals → AreGuarded pairs' (take seen' new.literals) new.literals
+    → IsKept clauses n pairs lists old levels seen ready → ready ≡ true → AreStored clauses n pairs' lists' → IsGrown clauses old new → KeepsParts clauses old.literals pairs pairs' → seen' ≤ length new.literals → AreGuarded clauses pairs' (take seen' new.literals) new.literals
     → IsKept clauses n pairs' lists' new levels seen' ready
 IsKept-grown clauses n pairs pairs' lists lists' old new levels seen seen' ready kept is stored grown parts looked guarded =
     let more = grown_more clauses old new grown in
@@ -437,25 +456,25 @@ IsKept-learn clauses clauses' n pairs pairs' lists lists' old new levels seen re
             ];
             same = vars ∙ v.same;
             guarded = λ r h. elim (cases_lt r (length pairs)) [
-              | inl b ↦ rw (old_pair r b, seen_new) (guard_more old.literals old.literals new.literals (pair_of pairs r).0 (pair_of pairs r).1 more (subst (λ t. AreGuarded pairs t old.literals) all v.guarded r b))
+              | inl b ↦ rw (old_pair r b, seen_new, old_clause r (omega (arith, b, kept.stored.count))) (guard_more (get_or clauses r []) old.literals old.literals new.literals (pair_of pairs r).0 (pair_of pairs r).1 more (subst (λ t. AreGuarded clauses pairs t old.literals) all v.guarded r b))
               | inr b ↦
                   let at : r ≡ length pairs = omega (arith, h, d) in
-                  let it : IsGuarded old.literals new.literals u w = record { first = λ x. absurd (is.live x); second = λ x. there; one = λ x. there } in
-                  rw (new_pair r at, seen_new) it
+                  let it : IsGuarded clause old.literals new.literals u w = record { first = λ x. absurd (is.live x); second = λ x. (u, is.first, there); one = λ x. there } in
+                  rw (new_pair r at, seen_new, new_clause r (omega (arith, at, kept.stored.count))) it
             ];
             parts = λ j h.
                 let low = kept.opened.within j h in
                 let part : take (start_of levels j) new.literals ≡ take (start_of levels j) old.literals = part_of old.literals new.literals (start_of levels j) same low in
-                subst (λ t. AreGuarded pairs' t t) (sym part) (λ r b. elim (cases_lt r (length pairs)) [
-                  | inl x ↦ rw (old_pair r x) (v.parts j h r x)
+                subst (λ t. AreGuarded clauses' pairs' t t) (sym part) (λ r b. elim (cases_lt r (length pairs)) [
+                  | inl x ↦ rw (old_pair r x, old_clause r (omega (arith, x, kept.stored.count))) (v.parts j h r x)
                   | inr x ↦
                       let at : r ≡ length pairs = omega (arith, b, d) in
-                      let it : IsGuarded (take (start_of levels j) old.literals) (take (start_of levels j) old.literals) u w = record {
+                      let it : IsGuarded clause (take (start_of levels j) old.literals) (take (start_of levels j) old.literals) u w = record {
                         first = λ q. absurd (is.live (Contains-take (start_of levels j) old.literals (neg_ℤ u) low q));
                         second = λ q. absurd (is.late j h q);
                         one = λ q. absurd (omega (arith, h, ap length (is.one q).0));
                       } in
-                      rw (new_pair r at) it
+                      rw (new_pair r at, new_clause r (omega (arith, at, kept.stored.count))) it
                 ]);
           };
     }
@@ -490,8 +509,8 @@ over_more n m clause h over l k = (let o = over l k in (o.0, omega (arith, o.1, 
 
 -- a round, with the list put back
 pub kept_round : (clauses : List (List ℤ)) (n : ℕ) (pairs pairs' : List (ℤ × ℤ)) (lists lists' : List (List ℕ)) (list : List ℕ) (old new : Past) (levels : List (ℕ × ℤ)) (seen seen' : ℕ) (ready : Bool) (a : ℤ)
-    → IsKept clauses n pairs lists old levels seen ready → ready ≡ true → nat_abs a ≤ n → length lists' ≡ length lists → IsGrown clauses old new → ArePairs clauses old.variables pairs' → AreFound pairs' lists' a → AreListed pairs' a list → KeepsParts old.literals pairs pairs'
-    → seen' ≤ length new.literals → AreGuarded pairs' (take seen' new.literals) new.literals → IsKept clauses n pairs' (set lists' (code_of a) list) new levels seen' ready
+    → IsKept clauses n pairs lists old levels seen ready → ready ≡ true → nat_abs a ≤ n → length lists' ≡ length lists → IsGrown clauses old new → ArePairs clauses old.variables pairs' → AreFound pairs' lists' a → AreListed pairs' a list → KeepsParts clauses old.literals pairs pairs'
+    → seen' ≤ length new.literals → AreGuarded clauses pairs' (take seen' new.literals) new.literals → IsKept clauses n pairs' (set lists' (code_of a) list) new levels seen' ready
 kept_round clauses n pairs pairs' lists lists' list old new levels seen seen' ready a kept is over same grown are found listed parts looked guarded =
     let vars = (kept.watched is).same in
     IsKept-grown clauses n pairs pairs' lists (set lists' (code_of a) list) old new levels seen seen' ready kept is

@@ -5,10 +5,17 @@ use lib.IntN.{neg_ℤ-neg_ℤ}
 use Rattle.std.proofs.lemmas.List.{length-map, get_or-map}
 use Rattle.l2_cnf.specs.Logic.{Propagates, assumed, unit, Conflicts, Negation, NegationBut, Follows, IsAbsorbed}
 use Rattle.l2_cnf.proofs.Laws.{same_or_not, more_conflicts}
-use Rattle.l2_watch.specs.Watch.{IsConsistent, IsPair, IsGuarded, IsClosed, Refutes}
+use Rattle.l2_watch.specs.Watch.{IsConsistent, IsPair, IsMet, IsGuarded, IsClosed, Refutes}
+
+-- where a literal of a clause is true and the others are false, it is that one
+only_one : (clause trail : List ℤ) (l : ℤ) → IsConsistent trail → ((m : ℤ) → Contains clause m → m ≢ l → Contains trail (neg_ℤ m)) → IsMet clause trail → Contains trail l
+only_one clause trail l consistent others (x, h, there) = elim (same_or_not x l) [
+  | inl e ↦ subst (Contains trail) e there
+  | inr ne ↦ absurd (consistent x there (others x h ne))
+]
 
 -- watched pairs close a trail
-pub guards_close : (list : List (List ℤ)) (trail : List ℤ) → IsConsistent trail → ((clause : List ℤ) → Contains list clause → (a : ℤ) × (b : ℤ) × (IsPair clause a b) × (IsGuarded trail trail a b)) → IsClosed list trail
+pub guards_close : (list : List (List ℤ)) (trail : List ℤ) → IsConsistent trail → ((clause : List ℤ) → Contains list clause → (a : ℤ) × (b : ℤ) × (IsPair clause a b) × (IsGuarded clause trail trail a b)) → IsClosed list trail
 guards_close list trail consistent guards = record {
   unit = λ clause c l h others.
       let g = guards clause c in
@@ -16,20 +23,15 @@ guards_close list trail consistent guards = record {
       let b : ℤ = g.1 in
       elim (same_or_not a b) [
         | inl same ↦ subst (Contains trail) (sym (g.2.one same l h)) (g.3.one same)
-        | inr apart ↦ elim (same_or_not a l) [
-          | inl e ↦ subst (Contains trail) e (g.3.second (others b g.2.second (λ s. apart (e ∙ sym s))))
-          | inr ne ↦
-              let b_true : Contains trail b = g.3.first (others a g.2.first ne) in
-              elim (same_or_not b l) [
-                | inl e ↦ subst (Contains trail) e b_true
-                | inr differ ↦ absurd (consistent b b_true (others b g.2.second differ))
-              ]
-        ]
+        | inr apart ↦ only_one clause trail l consistent others (elim (same_or_not a l) [
+          | inl e ↦ g.3.second (others b g.2.second (λ s. apart (e ∙ sym s)))
+          | inr ne ↦ g.3.first (others a g.2.first ne)
+        ])
       ];
   live = λ clause c all.
       let g = guards clause c in
-      let b_true : Contains trail g.1 = g.3.first (all g.0 g.2.first) in
-      consistent g.1 b_true (all g.1 g.2.second);
+      let met : IsMet clause trail = g.3.first (all g.0 g.2.first) in
+      consistent met.0 met.2 (all met.0 met.1);
 }
 
 -- what is reached from inside a closed trail is inside

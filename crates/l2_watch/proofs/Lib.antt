@@ -5,3 +5,4 @@ pub mod Outcomes
 pub mod Rounds
 pub mod Pasts
 pub mod Boards
+pub mod Entries

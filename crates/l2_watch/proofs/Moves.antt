@@ -6,7 +6,7 @@ use Rattle.std.proofs.lemmas.Bool.Decides.{nat_tests}
 use Rattle.std.proofs.lemmas.List.{get_or-set_same, get_or-set_other, length-set, get_or_default, get_or-take, length-take-le, get_or_past, get_or_append_left}
 use Rattle.std.proofs.lemmas.List.Elements.{Contains-append_left, Contains-push}
 use Rattle.l2_cnf.specs.Lit.{code_of}
-use Rattle.l2_watch.specs.Watch.{IsConsistent, IsPair, IsGuarded}
+use Rattle.l2_watch.specs.Watch.{IsConsistent, IsPair, IsMet, IsGuarded}
 use Rattle.l2_watch.specs.Visit.{list_of, pair_of, ArePairs, AreFound, AreGuarded, KeepsParts, IsOther, AreMore}
 
 -- a code tells the literal
@@ -40,28 +40,31 @@ other_stands clause p a o pair role = elim role [
   | inr r ↦ subst (Contains clause) (sym r.1) pair.first
 ]
 
+-- a clause that has a true literal keeps it
+pub met_more : (clause old new : List ℤ) → ((m : ℤ) → Contains old m → Contains new m) → IsMet clause old → IsMet clause new
+met_more clause old new more (x, h, there) = (x, h, more x there)
+
 -- a guard looks on as the trail grows
-pub guard_more : (seen old new : List ℤ) (a b : ℤ) → ((m : ℤ) → Contains old m → Contains new m) → IsGuarded seen old a b → IsGuarded seen new a b
-guard_more seen old new a b more g = record { first = λ h. more b (g.first h); second = λ h. more a (g.second h); one = λ e. more a (g.one e) }
+pub guard_more : (clause seen old new : List ℤ) (a b : ℤ) → ((m : ℤ) → Contains old m → Contains new m) → IsGuarded clause seen old a b → IsGuarded clause seen new a b
+guard_more clause seen old new a b more g = record { first = λ h. met_more clause old new more (g.first h); second = λ h. met_more clause old new more (g.second h); one = λ e. more a (g.one e) }
 
-module _ (seen trail : List ℤ) (p : ℤ × ℤ) (a o : ℤ) (inside : (m : ℤ) → Contains seen m → Contains trail m) (consistent : IsConsistent trail) (away : Contains trail (neg_ℤ a)) (role : IsOther p a o) (guard : IsGuarded seen trail p.0 p.1) where
-  -- the other literal isn't false among those seen, since a isn't true
-  pub other_unseen : ¬ Contains seen (neg_ℤ o)
-  other_unseen h = elim role [
-    | inl r ↦ consistent a (subst (Contains trail) r.0 (guard.second (subst (λ x. Contains seen (neg_ℤ x)) r.1 h))) away
-    | inr r ↦ consistent a (subst (Contains trail) r.0 (guard.first (subst (λ x. Contains seen (neg_ℤ x)) r.1 h))) away
-  ]
+-- a pair with a new literal that isn't false is guarded
+pub guard_moved : (clause seen part trail : List ℤ) (p : ℤ × ℤ) (a o m : ℤ) → ((x : ℤ) → Contains seen x → Contains trail x) → IsOther p a o → IsGuarded clause seen part p.0 p.1 → m ≢ o → ¬ Contains trail (neg_ℤ m) → IsGuarded clause seen part o m
+guard_moved clause seen part trail p a o m inside role guard ne live = record {
+  first = λ h. elim role [
+    | inl r ↦ guard.second (subst (λ x. Contains seen (neg_ℤ x)) r.1 h)
+    | inr r ↦ guard.first (subst (λ x. Contains seen (neg_ℤ x)) r.1 h)
+  ];
+  second = λ h. absurd (live (inside (neg_ℤ m) h));
+  one = λ e. absurd (ne (sym e));
+}
 
-  -- a pair with a new literal that isn't false is guarded
-  pub guard_moved : (m : ℤ) → m ≢ o → ¬ Contains trail (neg_ℤ m) → IsGuarded seen trail o m
-  guard_moved m ne live = record { first = λ h. absurd (other_unseen h); second = λ h. absurd (live (inside (neg_ℤ m) h)); one = λ e. absurd (ne (sym e)) }
-
-  -- the other literal isn't a
-  pub other_differs : o ≢ a
-  other_differs e = elim role [
-    | inl r ↦ consistent a (subst (Contains trail) r.0 (guard.one (r.0 ∙ sym e ∙ r.1))) away
-    | inr r ↦ consistent a (subst (Contains trail) r.0 (subst (Contains trail) (sym r.1 ∙ e ∙ sym r.0) (guard.one (sym r.1 ∙ e ∙ sym r.0)))) away
-  ]
+-- the other literal isn't a, where a isn't true
+pub other_differs : (clause seen trail : List ℤ) (p : ℤ × ℤ) (a o : ℤ) → IsConsistent trail → Contains trail (neg_ℤ a) → IsOther p a o → IsGuarded clause seen trail p.0 p.1 → o ≢ a
+other_differs clause seen trail p a o consistent away role guard e = elim role [
+  | inl r ↦ consistent a (subst (Contains trail) r.0 (guard.one (r.0 ∙ sym e ∙ r.1))) away
+  | inr r ↦ consistent a (subst (Contains trail) r.0 (subst (Contains trail) (sym r.1 ∙ e ∙ sym r.0) (guard.one (sym r.1 ∙ e ∙ sym r.0)))) away
+]
 
 -- a pair after a write
 pair_same : (pairs : List (ℤ × ℤ)) (r : ℕ) (p : ℤ × ℤ) → r < length pairs → pair_of (set pairs r p) r ≡ p
@@ -83,11 +86,12 @@ moved_pairs clauses n pairs r o m are h so sm ne = record {
   ];
 }
 
-pub moved_guarded : (pairs : List (ℤ × ℤ)) (seen trail : List ℤ) (r : ℕ) (a o m : ℤ) → ((x : ℤ) → Contains seen x → Contains trail x) → IsConsistent trail → Contains trail (neg_ℤ a) → r < length pairs → IsOther (pair_of pairs r) a o → AreGuarded pairs seen trail → m ≢ o → ¬ Contains trail (neg_ℤ m) → AreGuarded (set pairs r (o, m)) seen trail
-moved_guarded pairs seen trail r a o m inside consistent away h role guarded ne live q b = elim (cases_eq q r) [
+pub moved_guarded : (clauses : List (List ℤ)) (pairs : List (ℤ × ℤ)) (seen part trail : List ℤ) (r : ℕ) (a o m : ℤ) → ((x : ℤ) → Contains seen x → Contains trail x) → r < length pairs → IsOther (pair_of pairs r) a o → AreGuarded clauses pairs seen part → m ≢ o → ¬ Contains trail (neg_ℤ m) → AreGuarded clauses (set pairs r (o, m)) seen part
+moved_guarded clauses pairs seen part trail r a o m inside h role guarded ne live q b = elim (cases_eq q r) [
   | inl e ↦
       let p : pair_of (set pairs r (o, m)) q ≡ (o, m) = ap (pair_of (set pairs r (o, m))) e ∙ pair_same pairs r (o, m) h in
-      rw p (guard_moved seen trail (pair_of pairs r) a o inside consistent away role (guarded r h) m ne live)
+      let here : IsGuarded (get_or clauses r []) seen part o m = guard_moved (get_or clauses r []) seen part trail (pair_of pairs r) a o m inside role (guarded r h) ne live in
+      rw (p, e) here
   | inr differ ↦ rw (pair_other pairs r q (o, m) differ) (guarded q (omega (arith, b, length-set pairs r (o, m))))
 ]
 
@@ -131,31 +135,15 @@ moved_apart pairs r a o m h oa ma = (
   (λ e. ma (sym (ap (λ x. x.1) (pair_same pairs r (o, m) h)) ∙ e)),
 )
 
-pub guarded_more : (pairs : List (ℤ × ℤ)) (seen trail : List ℤ) (l : ℤ) → AreGuarded pairs seen trail → AreGuarded pairs seen (trail ++ l ∷ [])
-guarded_more pairs seen trail l guarded q b = guard_more seen trail (trail ++ l ∷ []) (pair_of pairs q).0 (pair_of pairs q).1 (λ m h. Contains-append_left trail (l ∷ []) m h) (guarded q b)
+pub guarded_more : (clauses : List (List ℤ)) (pairs : List (ℤ × ℤ)) (seen trail : List ℤ) (l : ℤ) → AreGuarded clauses pairs seen trail → AreGuarded clauses pairs seen (trail ++ l ∷ [])
+guarded_more clauses pairs seen trail l guarded q b = guard_more (get_or clauses q []) seen trail (trail ++ l ∷ []) (pair_of pairs q).0 (pair_of pairs q).1 (λ m h. Contains-append_left trail (l ∷ []) m h) (guarded q b)
 
 -- the pair that was read
 pub read_pair : (pairs : List (ℤ × ℤ)) (r : ℕ) (p : ℤ × ℤ) → r < length pairs → p ≡ get_or pairs r p → p ≡ pair_of pairs r
 read_pair pairs r p h e = e ∙ get_or_default pairs r p (pos 0, pos 0) h
 
--- a pair is guarded at a part of the trail too when it gets a new literal: its other literal isn't false there, since a isn't true
-pub guard_part : (part trail : List ℤ) (p : ℤ × ℤ) (a o m : ℤ) → ((x : ℤ) → Contains part x → Contains trail x) → IsConsistent trail → Contains trail (neg_ℤ a) → IsOther p a o → IsGuarded part part p.0 p.1 → m ≢ o → ¬ Contains trail (neg_ℤ m) → IsGuarded part part o m
-guard_part part trail p a o m inside consistent away role guard ne live = record {
-  first = λ h. absurd (elim role [
-    | inl r ↦ consistent a (inside a (subst (Contains part) r.0 (guard.second (subst (λ x. Contains part (neg_ℤ x)) r.1 h)))) away
-    | inr r ↦ consistent a (inside a (subst (Contains part) r.0 (guard.first (subst (λ x. Contains part (neg_ℤ x)) r.1 h)))) away
-  ]);
-  second = λ h. absurd (live (inside (neg_ℤ m) h));
-  one = λ e. absurd (ne (sym e));
-}
-
-pub moved_parts : (pairs : List (ℤ × ℤ)) (trail : List ℤ) (r : ℕ) (a o m : ℤ) → IsConsistent trail → Contains trail (neg_ℤ a) → r < length pairs → IsOther (pair_of pairs r) a o → m ≢ o → ¬ Contains trail (neg_ℤ m) → KeepsParts trail pairs (set pairs r (o, m))
-moved_parts pairs trail r a o m consistent away h role ne live b k guarded q bound = elim (cases_eq q r) [
-  | inl e ↦
-      let p : pair_of (set pairs r (o, m)) q ≡ (o, m) = ap (pair_of (set pairs r (o, m))) e ∙ pair_same pairs r (o, m) h in
-      rw p (guard_part (take b trail) trail (pair_of pairs r) a o m (λ x there. Contains-take b trail x k there) consistent away role (guarded r h) ne live)
-  | inr differ ↦ rw (pair_other pairs r q (o, m) differ) (guarded q (omega (arith, bound, length-set pairs r (o, m))))
-]
+pub moved_parts : (clauses : List (List ℤ)) (pairs : List (ℤ × ℤ)) (trail : List ℤ) (r : ℕ) (a o m : ℤ) → r < length pairs → IsOther (pair_of pairs r) a o → m ≢ o → ¬ Contains trail (neg_ℤ m) → KeepsParts clauses trail pairs (set pairs r (o, m))
+moved_parts clauses pairs trail r a o m h role ne live b k guarded = moved_guarded clauses pairs (take b trail) (take b trail) trail r a o m (λ x there. Contains-take b trail x k there) h role guarded ne live
 
 pub lists_more : (lists lists' : List (List ℕ)) (k r : ℕ) → k < length lists → lists' ≡ set lists k (get_or lists k [] ++ r ∷ []) → AreMore lists lists'
 lists_more lists lists' k r h new x q there = rw new (list_more lists k r q x h there)

@@ -1,13 +1,11 @@
 -- What the answers of the search rest on.
 use Rattle.std.proofs.Common.{◌≡◌, ◌≢◌, ◌⊎◌, inl, inr, ℕ, ◌≤◌, List, ◌++◌, [], ◌∷◌, take, sym, ◌∙◌, subst, arith, Bool, true, false}
 use Rattle.std.specs.Prelude.{ℤ, nat_abs, neg_ℤ, Contains}
-use Rattle.std.proofs.lemmas.List.{take-take}
 use Rattle.std.proofs.lemmas.List.Elements.{Contains-append_cases, Contains-push_cases, Contains-append_right}
 use Rattle.l2_cnf.specs.Logic.{Conflicts, Follows, Satisfies, HasTrue, literal_true, Settles}
 use Rattle.l2_cnf.specs.Trail.{AreOver}
 use Rattle.l2_cnf.proofs.Laws.{decide, no_model, Follows-implied}
-use Rattle.l2_watch.specs.Watch.{IsConsistent, IsGuarded, IsClosed}
-use Rattle.l2_watch.specs.Visit.{AreGuarded, IsOther}
+use Rattle.l2_watch.specs.Watch.{IsConsistent, IsClosed}
 use Rattle.l2_watch.proofs.Closed.{no_conflict_within}
 
 -- Sat: a closed trail that has each variable or its negation makes every clause true
@@ -38,22 +36,3 @@ implied_more v added learnt clause literals follows implied model c there = elim
     | inr e ↦ subst (HasTrue v) e (Follows-implied v (added ++ learnt) clause literals follows (implied model))
   ]
 ]
-
--- a new pair is guarded at an earlier level too: its other literal isn't false there, since a isn't true
-pub guard_prefix : (prefix trail : List ℤ) (p : ℤ × ℤ) (a o m : ℤ) → ((x : ℤ) → Contains prefix x → Contains trail x) → IsConsistent trail → Contains trail (neg_ℤ a) → IsOther p a o → IsGuarded prefix prefix p.0 p.1 → m ≢ o → ¬ Contains trail (neg_ℤ m) → IsGuarded prefix prefix o m
-guard_prefix prefix trail p a o m inside consistent away role guard ne live = record {
-  first = λ h. absurd (elim role [
-    | inl r ↦ consistent a (inside a (subst (Contains prefix) r.0 (guard.second (subst (λ x. Contains prefix (neg_ℤ x)) r.1 h)))) away
-    | inr r ↦ consistent a (inside a (subst (Contains prefix) r.0 (guard.first (subst (λ x. Contains prefix (neg_ℤ x)) r.1 h)))) away
-  ]);
-  second = λ h. absurd (live (inside (neg_ℤ m) h));
-  one = λ e. absurd (ne (sym e));
-}
-
--- after the way back to a level whose literals were all seen
-pub guarded_back : (pairs : List (ℤ × ℤ)) (trail : List ℤ) (b : ℕ) → AreGuarded pairs (take b trail) (take b trail) → AreGuarded pairs (take b (take b trail)) (take b trail)
-guarded_back pairs trail b guarded = rw (take-take b b trail (omega arith)) guarded
-
--- a clause that is learnt is guarded at every level before the one to which the search goes back, where two of its literals have no value
-pub guard_new : (prefix : List ℤ) (u w : ℤ) → u ≢ w → ¬ Contains prefix (neg_ℤ u) → ¬ Contains prefix (neg_ℤ w) → IsGuarded prefix prefix u w
-guard_new prefix u w ne nu nw = record { first = λ h. absurd (nu h); second = λ h. absurd (nw h); one = λ e. absurd (ne e) }

@@ -23,37 +23,15 @@ found_without pairs lists a all =
     }
 
 -- its clauses are all still to come
-pub visited_none : (pairs : List (ℤ × ℤ)) (lists : List (List ℕ)) (trail : List ℤ) (a : ℤ) → AreAllFound pairs lists → AreVisited pairs trail a [] (list_of lists a)
-visited_none pairs lists trail a all = record {
+pub visited_none : (clauses : List (List ℤ)) (pairs : List (ℤ × ℤ)) (lists : List (List ℕ)) (trail : List ℤ) (a : ℤ) → AreAllFound pairs lists → AreVisited clauses pairs trail a [] (list_of lists a)
+visited_none clauses pairs lists trail a all = record {
   first = λ r b e. inl (subst (λ x. Contains (list_of lists x) r) e (all.first r b));
   second = λ r b e. inl (subst (λ x. Contains (list_of lists x) r) e (all.second r b));
 }
 
--- with the list put back
-pub found_again : (pairs : List (ℤ × ℤ)) (lists : List (List ℕ)) (trail : List ℤ) (a : ℤ) (list : List ℕ) → code_of a < length lists → AreFound pairs lists a → AreVisited pairs trail a list [] → AreAllFound pairs (set lists (code_of a) list)
-found_again pairs lists trail a list h found visited =
-    let here : list_of (set lists (code_of a) list) a ≡ list = get_or-set_same lists (code_of a) list [] h in
-    let there : (x : ℤ) → x ≢ a → list_of (set lists (code_of a) list) x ≡ list_of lists x = λ x ne. get_or-set_other lists (code_of a) (code_of x) list [] (λ e. ne (code_of_injective x a e)) in
-    record {
-      first = λ r b. elim (same_or_not (pair_of pairs r).0 a) [
-        | inl e ↦ elim (visited.first r b e) [
-          | inl rest ↦ absurd (nothing r rest)
-          | inr done ↦ (let l : list_of (set lists (code_of a) list) (pair_of pairs r).0 ≡ list = ap (list_of (set lists (code_of a) list)) e ∙ here in rw l done.0)
-        ]
-        | inr ne ↦ rw (there (pair_of pairs r).0 ne) (found.first r b ne)
-      ];
-      second = λ r b. elim (same_or_not (pair_of pairs r).1 a) [
-        | inl e ↦ elim (visited.second r b e) [
-          | inl rest ↦ absurd (nothing r rest)
-          | inr done ↦ (let l : list_of (set lists (code_of a) list) (pair_of pairs r).1 ≡ list = ap (list_of (set lists (code_of a) list)) e ∙ here in rw l done.0)
-        ]
-        | inr ne ↦ rw (there (pair_of pairs r).1 ne) (found.second r b ne)
-      ];
-    }
-
 -- one more literal was looked at
-pub guarded_next : (pairs : List (ℤ × ℤ)) (trail : List ℤ) (seen : ℕ) (a : ℤ) (list : List ℕ) → seen < length trail → get_or trail seen (pos 0) ≡ neg_ℤ a → AreGuarded pairs (take seen trail) trail → AreVisited pairs trail a list [] → AreGuarded pairs (take (seen + 1) trail) trail
-guarded_next pairs trail seen a list h is guarded visited r b =
+pub guarded_next : (clauses : List (List ℤ)) (pairs : List (ℤ × ℤ)) (trail : List ℤ) (seen : ℕ) (a : ℤ) (list : List ℕ) → seen < length trail → get_or trail seen (pos 0) ≡ neg_ℤ a → AreGuarded clauses pairs (take seen trail) trail → AreVisited clauses pairs trail a list [] → AreGuarded clauses pairs (take (seen + 1) trail) trail
+guarded_next clauses pairs trail seen a list h is guarded visited r b =
     let more : take (seen + 1) trail ≡ take seen trail ++ neg_ℤ a ∷ [] = take_more trail seen (pos 0) h ∙ ap (λ x. take seen trail ++ x ∷ []) is in
     let g = guarded r b in
     let turned : (x : ℤ) → neg_ℤ a ≡ neg_ℤ x → x ≡ a = λ x e. sym (neg_ℤ-neg_ℤ x) ∙ ap neg_ℤ (sym e) ∙ neg_ℤ-neg_ℤ a in

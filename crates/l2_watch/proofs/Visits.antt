@@ -2,14 +2,16 @@
 use Rattle.std.proofs.Common.{◌≡◌, ◌⊎◌, inl, inr, ℕ, suc, zero, ◌+◌, ◌<◌, ◌≤◌, List, ◌++◌, [], ◌∷◌, length, get_or, set, take, drop, refl, sym, ap, ◌∙◌, subst, arith}
 use Rattle.std.specs.Prelude.{ℤ, pos, negsuc, nat_abs, neg_ℤ, Contains}
 use Rattle.std.proofs.lemmas.Bool.{cases_eq}
-use Rattle.std.proofs.lemmas.List.{take-append-le, length_push, drop_more, take_more_set, drop-set-lt, length-drop, get_or_default, get_or-take, get_or-drop, length-take-le}
+use Rattle.std.proofs.lemmas.List.{drop_all, take-map, length-map, take-append-le, length_push, drop_more, take_more_set, drop-set-lt, length-drop, get_or_default, get_or-take, get_or-drop, length-take-le}
 use Rattle.std.proofs.lemmas.List.Elements.{Contains-append_left, Contains-push, Contains-push_cases, Contains-append_cases, Contains-append_right}
 use lib.IntN.{neg_ℤ-neg_ℤ}
 use Rattle.l2_cnf.specs.Trail.{AreOver}
 use Rattle.l2_watch.specs.Past.{Past, IsGrown}
 use Rattle.l2_watch.proofs.Pasts.{grown_part}
-use Rattle.l2_watch.specs.Watch.{IsConsistent}
-use Rattle.l2_watch.specs.Visit.{pair_of, AreVisited, AreListed, AreGuarded, KeepsParts}
+use Rattle.l2_watch.proofs.Moves.{met_more}
+use Rattle.l2_watch.specs.Watch.{IsConsistent, IsMet}
+use Rattle.l2_watch.specs.Visit.{pair_of, AreVisited, AreListed, AreGuarded, KeepsParts, indices_of}
+use Rattle.l2_watch.specs.declared.entry.Entry.{Entry}
 use Rattle.l2_watch.specs.Handled.{Extends, IsHandled}
 use Rattle.l2_watch.specs.declared.visit.Step.{Step}
 use Rattle.l2_watch.specs.declared.visit.Step.TheVariants.{Keeps, Moved, Conflict}
@@ -38,7 +40,7 @@ extends_grows clause old new (inl e) m h = rw e h
 extends_grows clause old new (inr (l, e, _, _, _, _)) m h = rw e (Contains-append_left old (l ∷ []) m h)
 
 pub handled_extends : (clauses : List (List ℤ)) (old new : List ℤ) (before after : List (ℤ × ℤ)) (a : ℤ) (r : ℕ) (step : Step) → IsHandled clauses old new before after a r step → Extends (get_or clauses r []) old new
-handled_extends clauses old new before after a r Keeps h = h.2
+handled_extends clauses old new before after a r (Keeps b) h = h.2
 handled_extends clauses old new before after a r Moved h = inl h.0
 handled_extends clauses old new before after a r Conflict h = inl h.1
 
@@ -65,35 +67,28 @@ extends_seen clause old new q h (inl e) = (ap (take q) e, rw e h)
 extends_seen clause old new q h (inr (l, e, _, _, _, _)) = (ap (take q) e ∙ take-append-le q old (l ∷ []) h, rw e (omega (arith, h, length_push old l)))
 
 -- a clause was kept
-pub visited_keeps : (clauses : List (List ℤ)) (old new : List ℤ) (before after : List (ℤ × ℤ)) (a : ℤ) (xs : List ℕ) (i kept : ℕ) → i < length xs → kept ≤ i
-    → IsHandled clauses old new before after a (get_or xs i 0) Keeps → AreVisited before old a (take kept xs) (drop i xs)
-    → AreVisited after new a (take (kept + 1) (set xs kept (get_or xs i 0))) (drop (i + 1) (set xs kept (get_or xs i 0)))
-visited_keeps clauses old new before after a xs i kept h k handled visited =
+pub visited_keeps : (clauses : List (List ℤ)) (old new : List ℤ) (before after : List (ℤ × ℤ)) (a b : ℤ) (xs : List ℕ) (i kept : ℕ) → i < length xs → kept ≤ i
+    → IsHandled clauses old new before after a (get_or xs i 0) (Keeps b) → AreVisited clauses before old a (take kept xs) (drop i xs)
+    → AreVisited clauses after new a (take (kept + 1) (set xs kept (get_or xs i 0))) (drop (i + 1) (set xs kept (get_or xs i 0)))
+visited_keeps clauses old new before after a b xs i kept h k handled visited =
     let r : ℕ = get_or xs i 0 in
     let done : take (kept + 1) (set xs kept r) ≡ take kept xs ++ r ∷ [] = take_more_set xs kept r (omega arith) in
     let rest : drop (i + 1) (set xs kept r) ≡ drop (i + 1) xs = drop-set-lt (i + 1) xs kept r (omega arith) in
     let grows = extends_grows (get_or clauses r []) old new handled.2 in
-    rw (done, rest, handled.0) (record {
-      first = λ q b e. elim (visited.first q b e) [
-        | inl there ↦ elim (here_or_later xs i q h there) [
-          | inl s ↦ inr (subst (Contains (take kept xs ++ r ∷ [])) s (Contains-push (take kept xs) r), subst (λ x. Contains new (pair_of before x).1) s (handled.3 (subst (λ x. (pair_of before x).0 ≡ a) (sym s) e)))
-          | inr more ↦ inl more
-        ]
-        | inr old_one ↦ inr (Contains-append_left (take kept xs) (r ∷ []) q old_one.0, grows (pair_of before q).1 old_one.1)
-      ];
-      second = λ q b e. elim (visited.second q b e) [
-        | inl there ↦ elim (here_or_later xs i q h there) [
-          | inl s ↦ inr (subst (Contains (take kept xs ++ r ∷ [])) s (Contains-push (take kept xs) r), subst (λ x. Contains new (pair_of before x).0) s (handled.4 (subst (λ x. (pair_of before x).1 ≡ a) (sym s) e)))
-          | inr more ↦ inl more
-        ]
-        | inr old_one ↦ inr (Contains-append_left (take kept xs) (r ∷ []) q old_one.0, grows (pair_of before q).0 old_one.1)
-      ];
-    })
+    let met : IsMet (get_or clauses r []) new = (b, handled.3, handled.4) in
+    let one : (q : ℕ) → Contains (drop i xs) q ⊎ ((Contains (take kept xs) q) × (IsMet (get_or clauses q []) old)) → Contains (drop (i + 1) xs) q ⊎ ((Contains (take kept xs ++ r ∷ []) q) × (IsMet (get_or clauses q []) new)) = λ q was. elim was [
+      | inl there ↦ elim (here_or_later xs i q h there) [
+        | inl s ↦ inr (subst (Contains (take kept xs ++ r ∷ [])) s (Contains-push (take kept xs) r), subst (λ x. IsMet (get_or clauses x []) new) s met)
+        | inr more ↦ inl more
+      ]
+      | inr old_one ↦ inr (Contains-append_left (take kept xs) (r ∷ []) q old_one.0, met_more (get_or clauses q []) old new grows old_one.1)
+    ] in
+    rw (done, rest, handled.0) (record { first = λ q c e. one q (visited.first q c e); second = λ q c e. one q (visited.second q c e) })
 
 -- a clause went to another list
 pub visited_moved : (clauses : List (List ℤ)) (old new : List ℤ) (before after : List (ℤ × ℤ)) (a : ℤ) (xs : List ℕ) (i kept : ℕ) → i < length xs → length before ≡ length clauses
-    → IsHandled clauses old new before after a (get_or xs i 0) Moved → AreVisited before old a (take kept xs) (drop i xs)
-    → AreVisited after new a (take kept xs) (drop (i + 1) xs)
+    → IsHandled clauses old new before after a (get_or xs i 0) Moved → AreVisited clauses before old a (take kept xs) (drop i xs)
+    → AreVisited clauses after new a (take kept xs) (drop (i + 1) xs)
 visited_moved clauses old new before after a xs i kept h count handled visited =
     let r : ℕ = get_or xs i 0 in
     rw handled.0 (record {
@@ -106,7 +101,7 @@ visited_moved clauses old new before after a xs i kept h count handled visited =
                 | inl s ↦ absurd (ne (sym s))
                 | inr more ↦ inl more
               ]
-              | inr old_one ↦ inr (old_one.0, rw same old_one.1)
+              | inr old_one ↦ inr old_one
             ]
       ];
       second = λ q b e. elim (cases_eq q r) [
@@ -118,14 +113,14 @@ visited_moved clauses old new before after a xs i kept h count handled visited =
                 | inl s ↦ absurd (ne (sym s))
                 | inr more ↦ inl more
               ]
-              | inr old_one ↦ inr (old_one.0, rw same old_one.1)
+              | inr old_one ↦ inr old_one
             ]
       ];
     })
 
 -- what was gone through and what is still to come list the clauses that watch a
-pub visited_listed : (pairs : List (ℤ × ℤ)) (trail : List ℤ) (a : ℤ) (xs : List ℕ) (i kept : ℕ) → AreVisited pairs trail a (take kept xs) (drop i xs) → kept ≤ length xs → AreListed pairs a xs
-visited_listed pairs trail a xs i kept visited within r h watches =
+pub visited_listed : (clauses : List (List ℤ)) (pairs : List (ℤ × ℤ)) (trail : List ℤ) (a : ℤ) (xs : List ℕ) (i kept : ℕ) → AreVisited clauses pairs trail a (take kept xs) (drop i xs) → kept ≤ length xs → AreListed pairs a xs
+visited_listed clauses pairs trail a xs i kept visited within r h watches =
     let back : (q : ℕ) → Contains (take kept xs) q → Contains xs q = λ q (k, b, e).
     let before : k < kept = omega (arith, b, length-take-le kept xs within) in
     (k, omega (arith, before, within), sym (get_or-take kept xs k q before) ∙ e) in
@@ -138,11 +133,23 @@ visited_listed pairs trail a xs i kept visited within r h watches =
 
 -- dealing with a clause leaves no literal true with its negation
 pub handled_consistent : (clauses : List (List ℤ)) (n : ℕ) (old new : List ℤ) (before after : List (ℤ × ℤ)) (a : ℤ) (r : ℕ) (step : Step) → ((c : List ℤ) → Contains clauses c → AreOver n c) → IsConsistent old → IsHandled clauses old new before after a r step → IsConsistent new
-handled_consistent clauses n old new before after a r Keeps over c h = extends_consistent n (get_or clauses r []) old new (over (get_or clauses r []) (r, h.1, get_or_default clauses r _ _ h.1)) c h.2
+handled_consistent clauses n old new before after a r (Keeps b) over c h = extends_consistent n (get_or clauses r []) old new (over (get_or clauses r []) (r, h.1, get_or_default clauses r _ _ h.1)) c h.2
 handled_consistent clauses n old new before after a r Moved over c h = rw h.0 c
 handled_consistent clauses n old new before after a r Conflict over c h = rw h.1 c
 
-pub parts_then : (clauses : List (List ℤ)) (first mid : Past) (before pairs after : List (ℤ × ℤ)) → IsGrown clauses first mid → KeepsParts first.literals before pairs → KeepsParts mid.literals pairs after → KeepsParts first.literals before after
+pub parts_then : (clauses : List (List ℤ)) (first mid : Past) (before pairs after : List (ℤ × ℤ)) → IsGrown clauses first mid → KeepsParts clauses first.literals before pairs → KeepsParts clauses mid.literals pairs after → KeepsParts clauses first.literals before after
 parts_then clauses first mid before pairs after grown one two b h guarded =
     let same : take b mid.literals ≡ take b first.literals = grown_part clauses first mid b grown h in
-    subst (λ t. AreGuarded after t t) same (two b (omega (arith, grown.longer)) (subst (λ t. AreGuarded pairs t t) (sym same) (one b h guarded)))
+    subst (λ t. AreGuarded clauses after t t) same (two b (omega (arith, grown.longer)) (subst (λ t. AreGuarded clauses pairs t t) (sym same) (one b h guarded)))
+
+-- a list that was gone through to its end
+pub visited_all : (clauses : List (List ℤ)) (pairs : List (ℤ × ℤ)) (trail : List ℤ) (a : ℤ) (list : List Entry) (i kept : ℕ) → length list ≤ i → AreVisited clauses pairs trail a (take kept (indices_of list)) (drop i (indices_of list)) → AreVisited clauses pairs trail a (indices_of (take kept list)) []
+visited_all clauses pairs trail a list i kept h visited =
+    let none : drop i (indices_of list) ≡ [] = drop_all i (indices_of list) (omega (arith, h, length-map list (λ e. e.clause))) in
+    let same : take kept (indices_of list) ≡ indices_of (take kept list) = take-map (λ e. e.clause) kept list in
+    subst (λ done. AreVisited clauses pairs trail a done []) same (subst (λ rest. AreVisited clauses pairs trail a (take kept (indices_of list)) rest) none visited)
+
+pub visited_done : (clauses : List (List ℤ)) (pairs : List (ℤ × ℤ)) (trail : List ℤ) (a : ℤ) (done : List ℕ) → AreVisited clauses pairs trail a done [] → AreListed pairs a done
+visited_done clauses pairs trail a done visited r h watches =
+    let one : Contains [] r ⊎ ((Contains done r) × (IsMet (get_or clauses r []) trail)) → Contains done r = λ was. elim was [ inl rest ↦ absurd (omega (arith, rest.1)) | inr met ↦ met.0 ] in
+    elim watches [ inl e ↦ one (visited.first r h e) | inr e ↦ one (visited.second r h e) ]

@@ -59,14 +59,14 @@ pub record AreStored (clauses : List (List ℤ)) (variables : ℕ) (pairs : List
   pub found : AreAllFound pairs lists
   pub room : 2 * variables + 2 ≤ length lists
   pub some : 1 ≤ variables
-  pub small : variables < 2 ^ 62
+  pub small : variables < 2 ^ 31
 
 -- the watched literals guard the clauses, at each level too
 pub record AreWatched (clauses : List (List ℤ)) (variables : ℕ) (pairs : List (ℤ × ℤ)) (past : Past) (levels : List (ℕ × ℤ)) (seen : ℕ) : Type 0 where
   pub full : (r : ℕ) → r < length clauses → slice_index_or clauses r [] ≢ []
   pub same : past.variables ≡ variables
-  pub guarded : AreGuarded pairs (take seen past.literals) past.literals
-  pub parts : (j : ℕ) → j < length levels → AreGuarded pairs (take (start_of levels j) past.literals) (take (start_of levels j) past.literals)
+  pub guarded : AreGuarded clauses pairs (take seen past.literals) past.literals
+  pub parts : (j : ℕ) → j < length levels → AreGuarded clauses pairs (take (start_of levels j) past.literals) (take (start_of levels j) past.literals)
 
 -- what a board keeps
 pub record IsKept (clauses : List (List ℤ)) (variables : ℕ) (pairs : List (ℤ × ℤ)) (lists : List (List ℕ)) (past : Past) (levels : List (ℕ × ℤ)) (seen : ℕ) (ready : Bool) : Type 0 where

@@ -2,9 +2,10 @@ ghost use Rattle.std.specs.Prelude.{◌≡◌, ◌≢◌, ◌⊎◌, ◌≤◌, 
 ghost use Rattle.l2_cnf.specs.Lit.{code_of};
 ghost use Rattle.l2_cnf.specs.Trail.{AreOver};
 ghost use Rattle.l2_watch.specs.Watch.{IsPair};
-ghost use Rattle.l2_watch.specs.Visit.{items_of, list_of, AreMore};
+ghost use Rattle.l2_watch.specs.Visit.{items_of, entries_of, entered_both, list_of, AreMore, AreAllEntries};
 
-use crate::looks::add_to;
+use crate::entry::{Entry, ShortLit};
+use crate::looks::{add_to, take_back};
 use l2_cnf::{ClauseList, Lit};
 use std::alloc::{AllocError, Global};
 
@@ -41,10 +42,11 @@ pub fn first_pair(clause: &[Lit]) -> (Lit, Lit)
 }
 
 /// Makes the lists so many, if they are fewer.
-pub fn widen(alloc: Global, lists: &mut Vec<Vec<u64>>, count: usize) -> Result<(), AllocError>
+pub fn widen(alloc: Global, lists: &mut Vec<Vec<Entry>>, count: usize) -> Result<(), AllocError>
     ensures more { AreMore (items_of lists.old.items) (items_of lists.new.items) }
     ensures len { OnOk result (count ≤ length lists.new.items) }
     ensures longer { length lists.old.items ≤ length lists.new.items }
+    ensures entered { (clauses : List (List ℤ)) → AreAllEntries clauses (entries_of lists.old.items) → AreAllEntries clauses (entries_of lists.new.items) }
 {
     while lists.len() < count {
         lists.push(Vec::new(alloc))?;
@@ -52,27 +54,47 @@ pub fn widen(alloc: Global, lists: &mut Vec<Vec<u64>>, count: usize) -> Result<(
     Ok(())
 }
 
-/// Puts a clause behind the others, watched by two literals.
-pub fn attach(
-    clauses: &mut ClauseList,
-    pairs: &mut Vec<(Lit, Lit)>,
-    lists: &mut Vec<Vec<u64>>,
-    clause: &[Lit],
-    pair: (Lit, Lit),
-) -> Result<(), AllocError>
-    requires first { code_of pair.0 < length lists.old.items }
-    requires second { code_of pair.1 < length lists.old.items }
-    ensures clauses { OnOk result (clauses.new ≡ clauses.old ++ clause.now ∷ []) }
-    ensures pairs { OnOk result (pairs.new.items ≡ pairs.old.items ++ pair ∷ []) }
-    ensures same { OnErr result ((clauses.new ≡ clauses.old) × (pairs.new.items ≡ pairs.old.items)) }
-    ensures more { AreMore (items_of lists.old.items) (items_of lists.new.items) }
+// Puts the entries of a clause into the lists of the two literals that watch it, or none.
+fn enter(lists: &mut Vec<Vec<Entry>>, a: Lit, b: Lit, clause: u32) -> Result<(), AllocError>
+    requires first { code_of a < length lists.old.items }
+    requires second { code_of b < length lists.old.items }
+    requires first_small { nat_abs a < 2 ^ 31 }
+    requires second_small { nat_abs b < 2 ^ 31 }
+    ensures ok { OnOk result (entries_of lists.new.items ≡ entered_both (entries_of lists.old.items) a b clause) }
+    ensures err { OnErr result (entries_of lists.new.items ≡ entries_of lists.old.items) }
     ensures len { length lists.new.items ≡ length lists.old.items }
-    ensures found { OnOk result ((Contains (list_of (items_of lists.new.items) pair.0) (length clauses.old)) × (Contains (list_of (items_of lists.new.items) pair.1) (length clauses.old))) }
 {
-    let r = clauses.len();
-    add_to(lists, pair.0.code() as usize, r)?;
-    add_to(lists, pair.1.code() as usize, r)?;
-    pairs.push(pair)?;
+    let first = Entry {
+        blocker: ShortLit::of(b),
+        clause,
+    };
+    let second = Entry {
+        blocker: ShortLit::of(a),
+        clause,
+    };
+    add_to(lists, a.code() as usize, first)?;
+    if let Err(error) = add_to(lists, b.code() as usize, second) {
+        take_back(lists, a.code() as usize);
+        return Err(error);
+    }
+    Ok(())
+}
+
+// Puts a clause behind the others, and its pair behind theirs, or neither.
+fn store(
+    clauses: &mut ClauseList,
+    pairs: &mut Vec<(ShortLit, ShortLit)>,
+    clause: &[Lit],
+    a: Lit,
+    b: Lit,
+) -> Result<(), AllocError>
+    requires first_small { nat_abs a < 2 ^ 31 }
+    requires second_small { nat_abs b < 2 ^ 31 }
+    ensures clauses { OnOk result (clauses.new ≡ clauses.old ++ clause.now ∷ []) }
+    ensures pairs { OnOk result (pairs.new.items ≡ pairs.old.items ++ (a, b) ∷ []) }
+    ensures same { OnErr result ((clauses.new ≡ clauses.old) × (pairs.new.items ≡ pairs.old.items)) }
+{
+    pairs.push((ShortLit::of(a), ShortLit::of(b)))?;
     match clauses.push(clause) {
         Ok(()) => Ok(()),
         Err(_) => {
@@ -80,4 +102,40 @@ pub fn attach(
             Err(AllocError)
         }
     }
+}
+
+/// Puts a clause behind the others, watched by two literals. There is room for 2^32 clauses.
+pub fn attach(
+    clauses: &mut ClauseList,
+    pairs: &mut Vec<(ShortLit, ShortLit)>,
+    lists: &mut Vec<Vec<Entry>>,
+    clause: &[Lit],
+    a: Lit,
+    b: Lit,
+) -> Result<(), AllocError>
+    requires first { code_of a < length lists.old.items }
+    requires second { code_of b < length lists.old.items }
+    requires first_small { nat_abs a < 2 ^ 31 }
+    requires second_small { nat_abs b < 2 ^ 31 }
+    requires stands { (clause.now ≡ []) ⊎ ((Contains clause.now a) × (Contains clause.now b)) }
+    requires entered { AreAllEntries clauses.old (entries_of lists.old.items) }
+    ensures clauses { OnOk result (clauses.new ≡ clauses.old ++ clause.now ∷ []) }
+    ensures pairs { OnOk result (pairs.new.items ≡ pairs.old.items ++ (a, b) ∷ []) }
+    ensures same { OnErr result ((clauses.new ≡ clauses.old) × (pairs.new.items ≡ pairs.old.items)) }
+    ensures more { AreMore (items_of lists.old.items) (items_of lists.new.items) }
+    ensures len { length lists.new.items ≡ length lists.old.items }
+    ensures found { OnOk result ((Contains (list_of (items_of lists.new.items) a) (length clauses.old)) × (Contains (list_of (items_of lists.new.items) b) (length clauses.old))) }
+    ensures entered { AreAllEntries clauses.new (entries_of lists.new.items) }
+{
+    let count = clauses.len();
+    if count >= 1 << 32 {
+        return Err(AllocError);
+    }
+    enter(lists, a, b, count as u32)?;
+    if let Err(error) = store(clauses, pairs, clause, a, b) {
+        take_back(lists, b.code() as usize);
+        take_back(lists, a.code() as usize);
+        return Err(error);
+    }
+    Ok(())
 }

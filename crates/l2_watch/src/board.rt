@@ -6,6 +6,7 @@ ghost use Rattle.l2_watch.specs.Visit.{AreFalse};
 ghost use Rattle.l2_watch.specs.Board.{Board, IsBoard, IsDecided, IsLearnt, start_of};
 
 use crate::attach::{attach, first_pair, greatest, widen};
+use crate::entry::{Entry, ShortLit};
 use crate::history::History;
 use crate::raise::raise;
 use crate::visit::visit_list;
@@ -20,8 +21,8 @@ use std::mem;
 pub struct Watch {
     alloc: Global,
     clauses: ClauseList,
-    pairs: Vec<(Lit, Lit)>,
-    lists: Vec<Vec<u64>>,
+    pairs: Vec<(ShortLit, ShortLit)>,
+    lists: Vec<Vec<Entry>>,
     history: History,
     levels: Vec<(usize, Lit)>,
     seen: usize,
@@ -31,14 +32,15 @@ pub struct Watch {
 
 impl Model for Watch {
     ghost use Rattle.std.specs.Prelude.{List};
-    ghost use Rattle.l2_watch.specs.Visit.{items_of};
+    ghost use Rattle.l2_watch.specs.Visit.{items_of, entries_of, AreAllEntries};
     ghost use Rattle.l2_watch.specs.Board.{Board, IsKept};
 
     ghost Value = { Board };
 
     ghost view = { λ a. record { clauses = a.clauses; variables = a.variables; past = a.history; levels = a.levels.items; seen = a.seen; ready = a.ready } };
 
-    ghost invariant = { λ a. IsKept a.clauses a.variables a.pairs.items (items_of a.lists.items) a.history a.levels.items a.seen a.ready };
+    ghost invariant = { λ a. (IsKept a.clauses a.variables a.pairs.items (items_of a.lists.items) a.history a.levels.items a.seen a.ready)
+        × (AreAllEntries a.clauses (entries_of a.lists.items)) };
 }
 
 impl Watch {
@@ -84,7 +86,7 @@ impl Watch {
         self.ready = false;
     }
 
-    /// Takes in the variables up to this one.
+    /// Takes in the variables up to this one. There is room for 2^31.
     pub fn cover(&mut self, var: u64) -> Result<(), AllocError>
         requires { var < 2 ^ 62 }
         ensures clauses { self.new.clauses ≡ self.old.clauses }
@@ -95,6 +97,9 @@ impl Watch {
         ensures levels { self.old.levels ≡ [] → self.new.levels ≡ [] }
         ensures ready { self.old.ready ≡ false → self.new.ready ≡ false }
     {
+        if var >= 1 << 31 {
+            return Err(AllocError);
+        }
         if var > self.variables {
             self.reset();
             widen(self.alloc, &mut self.lists, 2 * var as usize + 2)?;
@@ -112,12 +117,14 @@ impl Watch {
     {
         self.reset();
         self.cover(greatest(clause))?;
+        let (a, b) = first_pair(clause);
         attach(
             &mut self.clauses,
             &mut self.pairs,
             &mut self.lists,
             clause,
-            first_pair(clause),
+            a,
+            b,
         )?;
         Ok(())
     }
@@ -322,7 +329,8 @@ impl Watch {
             &mut self.pairs,
             &mut self.lists,
             clause,
-            (u, w),
+            u,
+            w,
         )?;
         self.history.push(u, r + 1);
         Ok(())

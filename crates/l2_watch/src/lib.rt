@@ -3,6 +3,7 @@
 
 mod attach;
 mod board;
+mod entry;
 mod history;
 mod looks;
 mod raise;

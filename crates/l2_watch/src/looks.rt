@@ -1,8 +1,9 @@
 ghost use Rattle.std.specs.Prelude.{◌≡◌, ◌≢◌, ◌≤◌, ◌<◌, ◌+◌, ◌*◌, ◌++◌, ◌∷◌, [], ℕ, ℤ, pos, neg_ℤ, nat_abs, List, length, map, take, IfOk, OnOk, OnErr, IsTrue, ◌↔◌, Contains, slice_index_or, slice_set, MatchOption, MatchBool};
 ghost use Rattle.l2_cnf.specs.Trail.{AreOver};
-ghost use Rattle.l2_watch.specs.Visit.{items_of, AreMore};
+ghost use Rattle.l2_watch.specs.Visit.{items_of, entries_of, entered, AreMore};
 ghost use Rattle.l2_watch.specs.Look.{IsLook};
 
+use crate::entry::Entry;
 use crate::history::History;
 use l2_cnf::Lit;
 use std::alloc::AllocError;
@@ -46,18 +47,28 @@ pub fn look_at(history: &History, clause: &[Lit], other: Lit) -> Look
     }
 }
 
-/// Puts a clause into a list.
-pub fn add_to(lists: &mut Vec<Vec<u64>>, at: usize, clause: u64) -> Result<(), AllocError>
+/// Puts an entry into a list.
+pub fn add_to(lists: &mut Vec<Vec<Entry>>, at: usize, entry: Entry) -> Result<(), AllocError>
     requires { at < length lists.old.items }
-    ensures ok { OnOk result (items_of lists.new.items ≡ slice_set (items_of lists.old.items) at (slice_index_or (items_of lists.old.items) at [] ++ clause ∷ [])) }
-    ensures err { OnErr result (items_of lists.new.items ≡ items_of lists.old.items) }
+    ensures ok { OnOk result (entries_of lists.new.items ≡ entered (entries_of lists.old.items) at entry) }
+    ensures err { OnErr result (entries_of lists.new.items ≡ entries_of lists.old.items) }
     ensures more { AreMore (items_of lists.old.items) (items_of lists.new.items) }
-    ensures there { OnOk result (Contains (slice_index_or (items_of lists.new.items) at []) clause) }
+    ensures there { OnOk result (Contains (slice_index_or (items_of lists.new.items) at []) entry.clause) }
     ensures len { length lists.new.items ≡ length lists.old.items }
 {
     let list = &mut lists[at];
-    match list.push(clause) {
+    match list.push(entry) {
         Ok(()) => Ok(()),
         Err(_) => Err(AllocError),
     }
+}
+
+/// Takes the entry out that was put into a list last.
+pub fn take_back(lists: &mut Vec<Vec<Entry>>, at: usize)
+    requires { at < length lists.old.items }
+    ensures back { (before : List (List Entry)) (entry : Entry) → entries_of lists.old.items ≡ entered before at entry → entries_of lists.new.items ≡ before }
+    ensures len { length lists.new.items ≡ length lists.old.items }
+{
+    let list = &mut lists[at];
+    list.pop();
 }

@@ -4,11 +4,17 @@ ghost use Rattle.l2_watch.specs.Past.{Past, IsGrown};
 ghost use Rattle.l2_watch.specs.Watch.{IsPair};
 ghost use Rattle.l2_watch.specs.Visit.{pair_of, IsRaised, AreFalse};
 
+use crate::entry::ShortLit;
 use crate::history::History;
-use l2_cnf::{ClauseList, Lit};
+use l2_cnf::ClauseList;
 
 /// Makes the literal of a clause that has one true. It answers whether the clause has only literals that are false.
-fn raise_one(clauses: &ClauseList, history: &mut History, pair: (Lit, Lit), r: u64) -> bool
+fn raise_one(
+    clauses: &ClauseList,
+    history: &mut History,
+    pair: (ShortLit, ShortLit),
+    r: u64,
+) -> bool
     requires within { r < length clauses.now }
     requires pair { (slice_index_or clauses.now r [] ≡ []) ⊎ IsPair (slice_index_or clauses.now r []) pair.0 pair.1 }
     requires over { AreOver history.old.variables (slice_index_or clauses.now r []) }
@@ -21,19 +27,24 @@ fn raise_one(clauses: &ClauseList, history: &mut History, pair: (Lit, Lit), r: u
         return true;
     }
     let single = pair.0 == pair.1;
-    if !single || history.is_true(pair.0) {
+    let first = pair.0.literal();
+    if !single || history.is_true(first) {
         return false;
     }
-    if history.is_false(pair.0) {
+    if history.is_false(first) {
         return true;
     }
     let _count = clauses.len();
-    history.push(pair.0, r + 1);
+    history.push(first, r + 1);
     false
 }
 
 /// Makes the literal of each clause that has one true. It answers a clause whose literals are all false, if it comes upon one.
-pub fn raise(clauses: &ClauseList, pairs: &[(Lit, Lit)], history: &mut History) -> Option<u64>
+pub fn raise(
+    clauses: &ClauseList,
+    pairs: &[(ShortLit, ShortLit)],
+    history: &mut History,
+) -> Option<u64>
     requires count { length pairs.now ≡ length clauses.now }
     requires pair { (r : ℕ) → r < length clauses.now → (slice_index_or clauses.now r [] ≡ []) ⊎ IsPair (slice_index_or clauses.now r []) (pair_of pairs.now r).0 (pair_of pairs.now r).1 }
     requires over { (clause : List ℤ) → Contains clauses.now clause → AreOver history.old.variables clause }

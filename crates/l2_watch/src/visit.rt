@@ -1,9 +1,10 @@
-ghost use Rattle.std.specs.Prelude.{◌≡◌, ◌≢◌, ◌⊎◌, ◌≤◌, ◌<◌, ◌+◌, ◌*◌, ◌++◌, ◌∷◌, [], ℕ, ℤ, pos, neg_ℤ, nat_abs, List, length, map, take, IfOk, OnOk, OnErr, IsTrue, ◌↔◌, Contains, slice_index_or, slice_set, MatchOption, MatchBool, Ok, Some, None};
+ghost use Rattle.std.specs.Prelude.{◌≡◌, ◌≢◌, ◌⊎◌, ◌≤◌, ◌<◌, ◌^◌, ◌+◌, ◌*◌, ◌++◌, ◌∷◌, [], ℕ, ℤ, pos, neg_ℤ, nat_abs, List, length, map, take, IfOk, OnOk, OnErr, IsTrue, ◌↔◌, Contains, slice_index_or, slice_set, MatchOption, MatchBool, Ok, Some, None};
 ghost use Rattle.l2_watch.specs.Past.{Past, IsGrown};
 ghost use Rattle.l2_watch.specs.Watch.{IsConsistent, IsPair, IsGuarded};
-ghost use Rattle.l2_watch.specs.Visit.{items_of, list_of, pair_of, ArePairs, AreFound, AreVisited, AreGuarded, AreListed, KeepsParts, IsOther};
+ghost use Rattle.l2_watch.specs.Visit.{items_of, entries_of, indices_of, ArePairs, AreFound, AreVisited, AreGuarded, AreListed, AreEntries, AreAllEntries, IsEntry, KeepsParts, IsOther};
 ghost use Rattle.l2_watch.specs.Handled.{IsHandled};
 
+use crate::entry::{Entry, ShortLit};
 use crate::history::History;
 use crate::looks::{Look, add_to, look_at};
 use l2_cnf::{ClauseList, Lit};
@@ -12,19 +13,23 @@ use std::alloc::AllocError;
 /// What became of a clause in the list of a literal that became false.
 #[derive(Clone, Copy)]
 pub enum Step {
-    Keeps,
+    /// It stays in the list, and this literal of it is true.
+    Keeps(ShortLit),
+    /// It doesn't watch that literal any more.
     Moved,
+    /// Its literals are all false.
     Conflict,
 }
 
 /// The other of two literals.
-fn other_of(pair: (Lit, Lit), a: Lit) -> Option<Lit>
+fn other_of(pair: (ShortLit, ShortLit), a: Lit) -> Option<Lit>
     ensures { MatchOption result ((pair.0 ≢ a) × (pair.1 ≢ a)) (λ o. IsOther pair a o) }
 {
-    if pair.0 == a {
-        Some(pair.1)
-    } else if pair.1 == a {
-        Some(pair.0)
+    let (first, second) = (pair.0.literal(), pair.1.literal());
+    if first == a {
+        Some(second)
+    } else if second == a {
+        Some(first)
     } else {
         None
     }
@@ -34,11 +39,11 @@ fn other_of(pair: (Lit, Lit), a: Lit) -> Option<Lit>
 pub fn handle(
     clauses: &ClauseList,
     history: &mut History,
-    pairs: &mut Vec<(Lit, Lit)>,
-    lists: &mut Vec<Vec<u64>>,
+    pairs: &mut Vec<(ShortLit, ShortLit)>,
+    lists: &mut Vec<Vec<Entry>>,
     seen: usize,
     a: Lit,
-    r: u64,
+    entry: Entry,
 ) -> Result<Step, AllocError>
     requires false_one { Contains history.old.literals (neg_ℤ a) }
     requires consistent { IsConsistent history.old.literals }
@@ -46,36 +51,42 @@ pub fn handle(
     requires seen { seen ≤ length history.old.literals }
     requires pairs { ArePairs clauses.now history.old.variables pairs.old.items }
     requires found { AreFound pairs.old.items (items_of lists.old.items) a }
-    requires guarded { AreGuarded pairs.old.items (take seen history.old.literals) history.old.literals }
+    requires guarded { AreGuarded clauses.now pairs.old.items (take seen history.old.literals) history.old.literals }
     requires lists { 2 * history.old.variables + 2 ≤ length lists.old.items }
+    requires small { history.old.variables < 2 ^ 31 }
+    requires entry { IsEntry clauses.now entry }
+    requires entered { AreAllEntries clauses.now (entries_of lists.old.items) }
     ensures grown { IsGrown clauses.now history.old history.new }
-    ensures handled { IfOk result (IsHandled clauses.now history.old.literals history.new.literals pairs.old.items pairs.new.items a r) }
+    ensures handled { IfOk result (IsHandled clauses.now history.old.literals history.new.literals pairs.old.items pairs.new.items a entry.clause) }
     ensures same { OnErr result ((history.new ≡ history.old) × (pairs.new.items ≡ pairs.old.items)) }
     ensures pairs { ArePairs clauses.now history.old.variables pairs.new.items }
     ensures found { AreFound pairs.new.items (items_of lists.new.items) a }
-    ensures guarded { AreGuarded pairs.new.items (take seen history.old.literals) history.new.literals }
-    ensures parts { KeepsParts history.old.literals pairs.old.items pairs.new.items }
+    ensures guarded { AreGuarded clauses.now pairs.new.items (take seen history.old.literals) history.new.literals }
+    ensures parts { KeepsParts clauses.now history.old.literals pairs.old.items pairs.new.items }
     ensures lists { length lists.new.items ≡ length lists.old.items }
+    ensures entered { AreAllEntries clauses.now (entries_of lists.new.items) }
 {
-    if r >= clauses.len() {
-        return Ok(Step::Moved);
+    if history.is_true(entry.blocker.literal()) {
+        return Ok(Step::Keeps(entry.blocker));
     }
-    let pair = pairs[r as usize];
-    let Some(other) = other_of(pair, a) else {
+    let r = entry.clause as usize;
+    let Some(other) = other_of(pairs[r], a) else {
         return Ok(Step::Moved);
     };
+    let blocker = ShortLit::of(other);
     if history.is_true(other) {
-        return Ok(Step::Keeps);
+        return Ok(Step::Keeps(blocker));
     }
-    match look_at(history, clauses.clause(r), other) {
+    match look_at(history, clauses.clause(r as u64), other) {
         Look::Conflict => Ok(Step::Conflict),
         Look::Implies => {
-            history.push(other, r + 1);
-            Ok(Step::Keeps)
+            history.push(other, r as u64 + 1);
+            Ok(Step::Keeps(blocker))
         }
         Look::Moves(m) => {
-            add_to(lists, m.code() as usize, r)?;
-            pairs[r as usize] = (other, m);
+            let clause = entry.clause;
+            add_to(lists, m.code() as usize, Entry { blocker, clause })?;
+            pairs[r] = (blocker, ShortLit::of(m));
             Ok(Step::Moved)
         }
     }
@@ -86,11 +97,11 @@ pub fn handle(
 pub fn visit_list(
     clauses: &ClauseList,
     history: &mut History,
-    pairs: &mut Vec<(Lit, Lit)>,
-    lists: &mut Vec<Vec<u64>>,
+    pairs: &mut Vec<(ShortLit, ShortLit)>,
+    lists: &mut Vec<Vec<Entry>>,
     seen: usize,
     a: Lit,
-    list: &mut Vec<u64>,
+    list: &mut Vec<Entry>,
 ) -> Result<Option<u64>, AllocError>
     requires false_one { Contains history.old.literals (neg_ℤ a) }
     requires consistent { IsConsistent history.old.literals }
@@ -98,29 +109,35 @@ pub fn visit_list(
     requires seen { seen ≤ length history.old.literals }
     requires pairs { ArePairs clauses.now history.old.variables pairs.old.items }
     requires found { AreFound pairs.old.items (items_of lists.old.items) a }
-    requires guarded { AreGuarded pairs.old.items (take seen history.old.literals) history.old.literals }
+    requires guarded { AreGuarded clauses.now pairs.old.items (take seen history.old.literals) history.old.literals }
     requires lists { 2 * history.old.variables + 2 ≤ length lists.old.items }
-    requires visited { AreVisited pairs.old.items history.old.literals a [] list.old.items }
+    requires small { history.old.variables < 2 ^ 31 }
+    requires entered { AreAllEntries clauses.now (entries_of lists.old.items) }
+    requires visited { AreVisited clauses.now pairs.old.items history.old.literals a [] (indices_of list.old.items) }
+    requires entries { AreEntries clauses.now list.old.items }
     ensures grown { IsGrown clauses.now history.old history.new }
     ensures pairs { ArePairs clauses.now history.old.variables pairs.new.items }
     ensures found { AreFound pairs.new.items (items_of lists.new.items) a }
-    ensures guarded { AreGuarded pairs.new.items (take seen history.old.literals) history.new.literals }
-    ensures parts { KeepsParts history.old.literals pairs.old.items pairs.new.items }
-    ensures listed { AreListed pairs.new.items a list.new.items }
+    ensures guarded { AreGuarded clauses.now pairs.new.items (take seen history.old.literals) history.new.literals }
+    ensures parts { KeepsParts clauses.now history.old.literals pairs.old.items pairs.new.items }
+    ensures listed { AreListed pairs.new.items a (indices_of list.new.items) }
     ensures lists { length lists.new.items ≡ length lists.old.items }
-    ensures none { result ≡ Ok None → AreVisited pairs.new.items history.new.literals a list.new.items [] }
+    ensures entered { AreAllEntries clauses.now (entries_of lists.new.items) }
+    ensures none { result ≡ Ok None → AreVisited clauses.now pairs.new.items history.new.literals a (indices_of list.new.items) [] }
+    ensures entries { AreEntries clauses.now list.new.items }
     ensures conflict { (r : ℕ) → result ≡ Ok (Some r) → (r < length clauses.now) × ((m : ℤ) → Contains (slice_index_or clauses.now r []) m → Contains history.new.literals (neg_ℤ m)) }
 {
     let mut kept = 0;
     for i in 0..list.len() {
-        let r = list[i];
-        match handle(clauses, history, pairs, lists, seen, a, r)? {
-            Step::Keeps => {
-                list[kept] = r;
+        let entry = list[i];
+        let clause = entry.clause;
+        match handle(clauses, history, pairs, lists, seen, a, entry)? {
+            Step::Keeps(blocker) => {
+                list[kept] = Entry { blocker, clause };
                 kept += 1;
             }
             Step::Moved => {}
-            Step::Conflict => return Ok(Some(r)),
+            Step::Conflict => return Ok(Some(u64::from(clause))),
         }
     }
     list.truncate(kept);

@@ -1,4 +1,4 @@
-use Rattle.std.proofs.Common.{◌≡◌, ◌≢◌, [], inl, inr, sym, ◌∙◌, ap, subst, get_or, length}
+use Rattle.std.proofs.Common.{◌≡◌, ◌≢◌, ◌++◌, ◌∷◌, [], inl, inr, sym, ◌∙◌, ap, subst, get_or, length}
 use Rattle.std.specs.Prelude.{ℤ, neg_ℤ, Contains}
 use Rattle.std.proofs.lemmas.List.Elements.{Contains-push}
 use Rattle.l2_watch.specs.Watch.{IsPair}
@@ -22,13 +22,13 @@ all_one c p = p.one (code_tells c.args.pair.0 c.args.pair.1 (sym c.eq-single.ens
 pub returns-then-is_false-clause-cases : goal.returns-then-is_false-clause-cases
 returns-then-is_false-clause-cases c = λ m h.
     let same : m ≡ c.args.pair.0 = all_one (goal.at.returns-then-is_false-clause-cases c).After-is_true (one_pair (goal.at.returns-then-is_false-clause-cases c).Else-is_empty) m h in
-    subst (λ x. Contains c.args.history.now.literals (neg_ℤ x)) (sym same) (c.is_false.ensures.0 c.if-is_false.true)
+    subst (λ x. Contains c.args.history.now.literals (neg_ℤ x)) (c.literal-first.ensures ∙ sym same) (c.is_false.ensures.0 c.if-is_false.true)
 
 pub returns-clause-grown : goal.returns-clause-grown
 returns-clause-grown c =
     let d = (goal.at.returns-clause-grown c).After-is_true in
     let e = (goal.at.returns-clause-grown c).Else-is_empty in
-    IsGrown-push c.args.clauses.now c.args.history.now c.push.new.self c.args.pair.0 c.args.r c.requires.count c.requires.within (one_pair e).first (λ m h ne. absurd (ne (all_one d (one_pair e) m h))) c.push.ensures.literals c.push.ensures.reasons c.push.ensures.variables
+    IsGrown-push c.args.clauses.now c.args.history.now c.push.new.self c.args.pair.0 c.args.r c.requires.count c.requires.within (one_pair e).first (λ m h ne. absurd (ne (all_one d (one_pair e) m h))) (c.push.ensures.literals ∙ ap (λ x. c.args.history.now.literals ++ x ∷ []) c.literal-first.ensures) c.push.ensures.reasons c.push.ensures.variables
 
 pub returns-clause-cases : goal.returns-clause-cases
-returns-clause-cases c = (not_empty (goal.at.returns-clause-cases c).Else-is_empty, (λ e. rw c.push.ensures.literals (Contains-push c.args.history.now.literals c.args.pair.0)))
+returns-clause-cases c = (not_empty (goal.at.returns-clause-cases c).Else-is_empty, (λ e. subst (λ x. Contains c.push.new.self.literals x) c.literal-first.ensures (rw c.push.ensures.literals (Contains-push c.args.history.now.literals c.literal-first.result))))

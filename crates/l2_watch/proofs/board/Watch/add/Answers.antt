@@ -1,46 +1,62 @@
-use Rattle.std.proofs.Common.{◌≡◌, ◌≤◌, ◌*◌, ◌+◌, sym, ap, ◌∙◌, arith, length, false, ◌++◌, ◌∷◌, []}
+use Rattle.std.proofs.Common.{inl, inr, ◌≡◌, ◌≤◌, ◌*◌, ◌+◌, sym, ap, ◌∙◌, arith, length, false, ◌++◌, ◌∷◌, []}
 use Rattle.std.specs.Prelude.{nat_abs}
-use Rattle.std.proofs.lemmas.List.{length-map}
+use Rattle.l2_watch.proofs.Entries.{items_length}
 use Rattle.l2_cnf.specs.Trail.{AreOver}
 use Rattle.l2_watch.specs.Visit.{items_of}
 use Rattle.l2_watch.specs.Board.{AreStored}
 use Rattle.l2_watch.proofs.Boards.{IsKept-more, IsKept-attach, AreStored-attach, code_in, pair_over, over_more}
 use Rattle.l2_watch.proofs.board.Watch.add.Goals as goal
-use Rattle.l2_watch.proofs.board.Watch.add.Goals.{After-first_pair}
+use Rattle.l2_watch.proofs.board.Watch.add.Goals.{After-self}
 
-room : (c : After-first_pair) → 2 * c.self.inside.variables + 2 ≤ length c.self.inside.lists.items
-room c = omega (arith, c.self.invariant.stored.room, length-map c.self.inside.lists.items (λ v. v.items))
+room : (c : After-self) → 2 * c.self.inside.variables + 2 ≤ length c.self.inside.lists.items
+room c = omega (arith, c.self.invariant.0.stored.room, items_length c.self.inside.lists.items)
 
-within : (c : After-first_pair) → c.greatest.result ≤ c.self.inside.variables
+within : (c : After-self) → c.greatest.result ≤ c.self.inside.variables
 within c = omega (arith, c.in_ok-cover.ensures.over, ap (λ b. b.variables) c.self.view_is)
 
-over : (c : After-first_pair) → AreOver c.self.inside.variables c.args.clause.now
+over : (c : After-self) → AreOver c.self.inside.variables c.args.clause.now
 over c = over_more c.greatest.result c.self.inside.variables c.args.clause.now (within c) c.greatest.ensures.over
 
-both : (c : After-first_pair) → (nat_abs c.first_pair.result.0 ≤ c.self.inside.variables) × (nat_abs c.first_pair.result.1 ≤ c.self.inside.variables)
-both c = pair_over c.self.inside.variables c.args.clause.now c.first_pair.result.0 c.first_pair.result.1 c.self.invariant.stored.some (over c) c.first_pair.ensures.pair c.first_pair.ensures.none
+both : (c : After-self) → (nat_abs c.first_pair-a.result.0 ≤ c.self.inside.variables) × (nat_abs c.first_pair-a.result.1 ≤ c.self.inside.variables)
+both c = pair_over c.self.inside.variables c.args.clause.now c.first_pair-a.result.0 c.first_pair-a.result.1 c.self.invariant.0.stored.some (over c) c.first_pair-a.ensures.pair c.first_pair-a.ensures.none
 
 pub attach-requires-clause-first : goal.attach-requires-clause-first
-attach-requires-clause-first c = (let d = (goal.at.attach-requires-clause-first c).After-first_pair in code_in c.first_pair.result.0 c.self.inside.variables (length c.self.inside.lists.items) (both d).0 (room d))
+attach-requires-clause-first c = (let d = (goal.at.attach-requires-clause-first c).After-self in code_in c.first_pair-a.result.0 c.self.inside.variables (length c.self.inside.lists.items) (both d).0 (room d))
 
 pub attach-requires-clause-second : goal.attach-requires-clause-second
-attach-requires-clause-second c = (let d = (goal.at.attach-requires-clause-second c).After-first_pair in code_in c.first_pair.result.1 c.self.inside.variables (length c.self.inside.lists.items) (both d).1 (room d))
+attach-requires-clause-second c = (let d = (goal.at.attach-requires-clause-second c).After-self in code_in c.first_pair-a.result.1 c.self.inside.variables (length c.self.inside.lists.items) (both d).1 (room d))
+
+pub attach-requires-clause-first_small : goal.attach-requires-clause-first_small
+attach-requires-clause-first_small c = (let d = (goal.at.attach-requires-clause-first_small c).After-self in omega (arith, (both d).0, c.self.invariant.0.stored.small))
+
+pub attach-requires-clause-second_small : goal.attach-requires-clause-second_small
+attach-requires-clause-second_small c = (let d = (goal.at.attach-requires-clause-second_small c).After-self in omega (arith, (both d).1, c.self.invariant.0.stored.small))
+
+pub attach-requires-clause-stands : goal.attach-requires-clause-stands
+attach-requires-clause-stands c = elim c.first_pair-a.ensures.pair [ inl none ↦ inl none | inr p ↦ inr (p.first, p.second) ]
+
+pub attach-requires-clause-entered : goal.attach-requires-clause-entered
+attach-requires-clause-entered c = c.self.invariant.1
 
 pub invariant_of-self : goal.invariant_of-self
 invariant_of-self c =
-    let was = c.self.inside in
-    rw ((c.in_err-attach.ensures.same).0, (c.in_err-attach.ensures.same).1)
-    (IsKept-more was.clauses was.variables was.pairs.items (items_of was.lists.items) (items_of c.attach.new.lists.items) was.history was.levels.items was.seen was.ready c.self.invariant c.attach.ensures.more
-    (omega (arith, c.attach.ensures.len, length-map was.lists.items (λ v. v.items), length-map c.attach.new.lists.items (λ v. v.items))))
+    let was = c.self.inside in (
+      rw ((c.in_err-attach.ensures.same).0, (c.in_err-attach.ensures.same).1)
+          (IsKept-more was.clauses was.variables was.pairs.items (items_of was.lists.items) (items_of c.attach.new.lists.items) was.history was.levels.items was.seen was.ready c.self.invariant.0 c.attach.ensures.more
+          (omega (arith, c.attach.ensures.len, items_length was.lists.items, items_length c.attach.new.lists.items))),
+      c.attach.ensures.entered,
+    )
 
 pub invariant_of-self-2 : goal.invariant_of-self-2
 invariant_of-self-2 c =
     let was = c.self.inside in
-    let d = (goal.at.invariant_of-self-2 c).After-first_pair in
+    let d = (goal.at.invariant_of-self-2 c).After-self in
     let told = c.in_ok-attach.ensures in
     let idle : was.ready ≡ false = ap (λ b. b.ready) c.self.view_is ∙ c.cover.ensures.ready c.reset.ensures.ready in
-    let stored : AreStored (was.clauses ++ c.args.clause.now ∷ []) was.variables (was.pairs.items ++ c.first_pair.result ∷ []) (items_of c.attach.new.lists.items) =
-    AreStored-attach was.clauses was.variables was.pairs.items (items_of was.lists.items) (items_of c.attach.new.lists.items) c.args.clause.now c.first_pair.result c.self.invariant.stored (over d) c.first_pair.ensures.pair c.attach.ensures.more
-    (length-map c.attach.new.lists.items (λ v. v.items) ∙ c.attach.ensures.len ∙ sym (length-map was.lists.items (λ v. v.items))) told.found.0 told.found.1 in
-    IsKept-attach was.clauses c.attach.new.clauses was.variables was.pairs.items c.attach.new.pairs.items (items_of was.lists.items) (items_of c.attach.new.lists.items) was.history was.levels.items was.seen was.ready c.args.clause.now c.self.invariant idle
-    (rw (told.clauses, told.pairs) stored) told.clauses
+    let stored : AreStored (was.clauses ++ c.args.clause.now ∷ []) was.variables (was.pairs.items ++ c.first_pair-a.result ∷ []) (items_of c.attach.new.lists.items) =
+    AreStored-attach was.clauses was.variables was.pairs.items (items_of was.lists.items) (items_of c.attach.new.lists.items) c.args.clause.now c.first_pair-a.result c.self.invariant.0.stored (over d) c.first_pair-a.ensures.pair c.attach.ensures.more
+    (items_length c.attach.new.lists.items ∙ c.attach.ensures.len ∙ sym (items_length was.lists.items)) told.found.0 told.found.1 in (
+      IsKept-attach was.clauses c.attach.new.clauses was.variables was.pairs.items c.attach.new.pairs.items (items_of was.lists.items) (items_of c.attach.new.lists.items) was.history was.levels.items was.seen was.ready c.args.clause.now c.self.invariant.0 idle
+          (rw (told.clauses, told.pairs) stored) told.clauses,
+      c.attach.ensures.entered,
+    )

@@ -21,28 +21,32 @@ invariant_of-self-then-not-is_true c =
     let old : List ℤ = was.history.literals in
     let le = c.push-then-not-is_true.ensures.literals in
     let re = c.push-then-not-is_true.ensures.reasons in
-    let n : length c.push-then-not-is_true.new.self.literals ≡ length old + 1 = ap length le ∙ length_push old c.args.l in
-    subst (λ x. IsKept was.clauses was.variables was.pairs.items (items_of was.lists.items) c.push-then-not-is_true.new.self x was.seen was.ready) (sym (levels_are d))
-    (IsKept-decide was.clauses was.variables was.pairs.items (items_of was.lists.items) was.history c.push-then-not-is_true.new.self was.levels.items was.seen was.ready c.args.l c.self.invariant (seen_is d) c.push-then-not-is_true.ensures.variables
-    (ap (take (length old)) le ∙ take_push old c.args.l (length old) (omega arith) ∙ take_all (length old) old (omega arith))
-    (omega (arith, n))
-    (λ m h. subst (λ x. Contains x m) (sym le) (Contains-append_left old (c.args.l ∷ []) m h))
-    (subst (λ x. Contains x c.args.l) (sym le) (Contains-push old c.args.l))
-    (λ k h. ap (λ x. get_or x k 0) re ∙ get_or_append_left was.history.reasons (0 ∷ []) 0 k (omega (arith, h, c.len-start.ensures.count)))
-    (λ k low high.
-    let at : k ≡ length old = omega (arith, low, high, n) in
-    (at, ap (λ x. get_or x k (pos 0)) le ∙ get_or_push old c.args.l (pos 0) k (sym at), ap (λ x. get_or x k 0) re ∙ get_or_push was.history.reasons 0 0 k (omega (arith, at, c.len-start.ensures.count)))))
+    let n : length c.push-then-not-is_true.new.self.literals ≡ length old + 1 = ap length le ∙ length_push old c.args.l in (
+      subst (λ x. IsKept was.clauses was.variables was.pairs.items (items_of was.lists.items) c.push-then-not-is_true.new.self x was.seen was.ready) (sym (levels_are d))
+          (IsKept-decide was.clauses was.variables was.pairs.items (items_of was.lists.items) was.history c.push-then-not-is_true.new.self was.levels.items was.seen was.ready c.args.l c.self.invariant.0 (seen_is d) c.push-then-not-is_true.ensures.variables
+          (ap (take (length old)) le ∙ take_push old c.args.l (length old) (omega arith) ∙ take_all (length old) old (omega arith))
+          (omega (arith, n))
+          (λ m h. subst (λ x. Contains x m) (sym le) (Contains-append_left old (c.args.l ∷ []) m h))
+          (subst (λ x. Contains x c.args.l) (sym le) (Contains-push old c.args.l))
+          (λ k h. ap (λ x. get_or x k 0) re ∙ get_or_append_left was.history.reasons (0 ∷ []) 0 k (omega (arith, h, c.len-start.ensures.count)))
+          (λ k low high.
+          let at : k ≡ length old = omega (arith, low, high, n) in
+          (at, ap (λ x. get_or x k (pos 0)) le ∙ get_or_push old c.args.l (pos 0) k (sym at), ap (λ x. get_or x k 0) re ∙ get_or_push was.history.reasons 0 0 k (omega (arith, at, c.len-start.ensures.count))))),
+      c.self.invariant.1,
+    )
 
 pub invariant_of-self-else-not-is_true : goal.invariant_of-self-else-not-is_true
 invariant_of-self-else-not-is_true c =
     let was = c.self.inside in
     let d = (goal.at.invariant_of-self-else-not-is_true c).After-is_true in
-    let old : List ℤ = was.history.literals in
-    subst (λ x. IsKept was.clauses was.variables was.pairs.items (items_of was.lists.items) was.history x was.seen was.ready) (sym (levels_are d))
-    (IsKept-decide was.clauses was.variables was.pairs.items (items_of was.lists.items) was.history was.history was.levels.items was.seen was.ready c.args.l c.self.invariant (seen_is d) refl
-    (take_all (length old) old (omega arith))
-    (omega arith)
-    (λ m h. h)
-    (c.is_true.ensures.0 c.if-not-is_true.false)
-    (λ k h. refl)
-    (λ k low high. absurd (omega (arith, low, high))))
+    let old : List ℤ = was.history.literals in (
+      subst (λ x. IsKept was.clauses was.variables was.pairs.items (items_of was.lists.items) was.history x was.seen was.ready) (sym (levels_are d))
+          (IsKept-decide was.clauses was.variables was.pairs.items (items_of was.lists.items) was.history was.history was.levels.items was.seen was.ready c.args.l c.self.invariant.0 (seen_is d) refl
+          (take_all (length old) old (omega arith))
+          (omega arith)
+          (λ m h. h)
+          (c.is_true.ensures.0 c.if-not-is_true.false)
+          (λ k h. refl)
+          (λ k low high. absurd (omega (arith, low, high)))),
+      c.self.invariant.1,
+    )
