@@ -1,9 +1,13 @@
 -- A history's places and reasons, and histories that were added to.
-use Rattle.std.proofs.Common.{add-one, ◌≡◌, ◌≢◌, inl, inr, ℕ, suc, zero, ◌+◌, ◌<◌, ◌≤◌, List, ◌++◌, [], ◌∷◌, take, length, get_or, set, refl, sym, ap, ◌∙◌, subst, arith}
+use Rattle.std.proofs.Common.{add-one, ◌-◌, ◌*◌, Bool, true, false, replicate, ◌≡◌, ◌≢◌, inl, inr, ℕ, suc, zero, ◌+◌, ◌<◌, ◌≤◌, List, ◌++◌, [], ◌∷◌, take, length, get_or, set, refl, sym, ap, ◌∙◌, subst, arith}
 use Rattle.std.specs.Prelude.{ℤ, pos, neg_ℤ, nat_abs, Contains}
-use Rattle.std.proofs.lemmas.Bool.{cases_lt}
-use Rattle.std.proofs.lemmas.List.{get_or-set_same, get_or-set_other, length-set, get_or_append_left, get_or_push, get_or_default, length_push, get_or-take, take-take, take-append-le, take_all}
-use Rattle.l2_watch.specs.Past.{Past, IsPlaced, IsReason, IsImplied, IsGrown}
+use Rattle.std.proofs.lemmas.Bool.{cases_lt, cases_eq}
+use Rattle.std.proofs.lemmas.List.Elements.{Contains-append_left, Contains-push, Contains-push_cases}
+use Rattle.l2_cnf.specs.Lit.{code_of}
+use Rattle.l2_cnf.specs.Trail.{AreApart}
+use Rattle.l2_watch.proofs.Moves.{code_of_injective, code_within, Contains-take}
+use Rattle.std.proofs.lemmas.List.{get_or-set_same, get_or-set_other, length-set, get_or_append_left, get_or_push, get_or_default, length_push, get_or-take, take-take, take-append-le, take_all, get_or_past, get_or-replicate, length-replicate, length-take-le}
+use Rattle.l2_watch.specs.Past.{Past, IsPlaced, AreTold, IsReason, IsImplied, IsGrown}
 
 -- one more literal
 pub IsPlaced-push : (literals : List ℤ) (reasons places : List ℕ) (n : ℕ) (l : ℤ) (reason at : ℕ) → IsPlaced literals reasons places n → at ≡ length literals → nat_abs l ≤ n → ((m : ℤ) → Contains literals m → nat_abs m ≡ nat_abs l → ⊥) → IsPlaced (literals ++ l ∷ []) (set reasons at reason) (set places (nat_abs l) at) n
@@ -20,6 +24,16 @@ IsPlaced-push literals reasons places n l reason at is e within new = record {
         let here : get_or (literals ++ l ∷ []) k (pos 0) ≡ l = get_or_push literals l (pos 0) k (sym same) in
         ap (λ x. get_or (set places (nat_abs l) at) (nat_abs x) 0) here ∙ get_or-set_same places (nat_abs l) at 0 (omega (arith, is.places_room)) ∙ e ∙ sym same
   ];
+}
+
+-- literals taken out
+pub IsPlaced-pop : (literals : List ℤ) (reasons places : List ℕ) (n m : ℕ) → IsPlaced literals reasons places n → m ≤ length literals → IsPlaced (take m literals) reasons places n
+IsPlaced-pop literals reasons places n m is h = record {
+  reasons_room = is.reasons_room;
+  places_room = is.places_room;
+  at = λ k b.
+      let before : k < m = omega (arith, b, length-take-le m literals h) in
+      ap (λ x. get_or places (nat_abs x) 0) (get_or-take m literals k (pos 0) before) ∙ is.at k (omega (arith, before, h));
 }
 
 -- a clause whose literals but one are false gives a reason for it
@@ -104,3 +118,63 @@ grown_more clauses old new is m (k, h, e) =
 
 pub grown_part : (clauses : List (List ℤ)) (old new : Past) (b : ℕ) → IsGrown clauses old new → b ≤ length old.literals → take b new.literals ≡ take b old.literals
 grown_part clauses old new b is h = sym (take-take b (length old.literals) new.literals h) ∙ ap (take b) is.literals
+
+-- no literal is true
+pub AreTold-none : (literals : List ℤ) (n : ℕ) → literals ≡ [] → AreTold literals (replicate (2 * n + 2) false) n
+AreTold-none literals n none = record {
+  room = omega (arith, length-replicate (2 * n + 2) false);
+  told = λ l.
+      let no : get_or (replicate (2 * n + 2) false) (code_of l) false ≡ false = elim (cases_lt (code_of l) (2 * n + 2)) [
+        | inl b ↦ get_or-replicate (2 * n + 2) (code_of l) false false b
+        | inr b ↦ get_or_past (replicate (2 * n + 2) false) (code_of l) false (omega (arith, b, length-replicate (2 * n + 2) false))
+      ] in
+      ((λ t. absurd (let f : true ≡ false = sym t ∙ no in cc)), (λ h. absurd (omega (arith, h.1, ap length none))));
+}
+
+-- one more literal is true
+pub AreTold-push : (literals : List ℤ) (truths : List Bool) (n k : ℕ) (l : ℤ) → AreTold literals truths n → k ≡ code_of l → nat_abs l ≤ n → AreTold (literals ++ l ∷ []) (set truths k true) n
+AreTold-push literals truths n k l are e within = record {
+  room = omega (arith, are.room, length-set truths k true);
+  told = λ m. elim (cases_eq (code_of m) k) [
+    | inl same ↦
+        let s : l ≡ m = code_of_injective l m (sym e ∙ sym same) in
+        let t : get_or (set truths k true) (code_of m) false ≡ true = ap (λ j. get_or (set truths k true) j false) same ∙ get_or-set_same truths k true false (omega (arith, code_within l n within, are.room, e)) in
+        ((λ h. subst (Contains (literals ++ l ∷ [])) s (Contains-push literals l)), (λ h. t))
+    | inr differ ↦
+        let t : get_or (set truths k true) (code_of m) false ≡ get_or truths (code_of m) false = get_or-set_other truths k (code_of m) true false differ in (
+          (λ h. Contains-append_left literals (l ∷ []) m ((are.told m).0 (sym t ∙ h))),
+          (λ h. t ∙ (are.told m).1 (elim (Contains-push_cases literals l m h) [ inl old ↦ old | inr s ↦ absurd (differ (ap code_of (sym s) ∙ sym e)) ])),
+        )
+  ];
+}
+
+-- the last literal is taken out
+pub AreTold-pop : (literals : List ℤ) (truths : List Bool) (n k : ℕ) (l : ℤ) → AreTold literals truths n → AreApart literals → 0 < length literals → get_or literals (length literals - 1) (pos 0) ≡ l → k ≡ code_of l → nat_abs l ≤ n → AreTold (take (length literals - 1) literals) (set truths k false) n
+AreTold-pop literals truths n k l are apart some is e within =
+    let last : ℕ = length literals - 1 in
+    let low : length (take last literals) ≡ last = length-take-le last literals (omega arith) in
+    record {
+      room = omega (arith, are.room, length-set truths k false);
+      told = λ m. elim (cases_eq (code_of m) k) [
+        | inl same ↦
+            let s : l ≡ m = code_of_injective l m (sym e ∙ sym same) in
+            let t : get_or (set truths k false) (code_of m) false ≡ false = ap (λ j. get_or (set truths k false) j false) same ∙ get_or-set_same truths k false false (omega (arith, code_within l n within, are.room, e)) in (
+              (λ h. absurd (let f : true ≡ false = sym h ∙ t in cc)),
+              (λ (j, b, there).
+                  let before : j < last = omega (arith, b, low) in
+                  let at : get_or literals j (pos 0) ≡ m = get_or_default literals j (pos 0) m (omega (arith, before, some)) ∙ sym (get_or-take last literals j m before) ∙ there in
+                  absurd (apart j last before (omega (arith, some)) (ap nat_abs (at ∙ sym s ∙ sym is)))),
+            )
+        | inr differ ↦
+            let t : get_or (set truths k false) (code_of m) false ≡ get_or truths (code_of m) false = get_or-set_other truths k (code_of m) false false differ in (
+              (λ h. (let old = (are.told m).0 (sym t ∙ h) in elim (cases_lt old.0 last) [
+                | inl b ↦ (old.0, omega (arith, b, low), get_or-take last literals old.0 m b ∙ old.2)
+                | inr b ↦
+                    let at : old.0 ≡ last = omega (arith, b, old.1) in
+                    let s : m ≡ l = sym old.2 ∙ get_or_default literals old.0 m (pos 0) old.1 ∙ ap (λ j. get_or literals j (pos 0)) at ∙ is in
+                    absurd (differ (ap code_of s ∙ sym e))
+              ])),
+              (λ h. t ∙ (are.told m).1 (Contains-take last literals m (omega arith) h)),
+            )
+      ];
+    }

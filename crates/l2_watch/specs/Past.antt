@@ -1,5 +1,6 @@
 -- Literals that are true, in order, and what made each of them true.
-use Rattle.std.specs.Prelude.{◌≡◌, ◌≢◌, ℕ, suc, zero, ◌<◌, ◌≤◌, ℤ, pos, neg_ℤ, nat_abs, List, length, take, Contains, slice_index_or, []}
+use Rattle.std.specs.Prelude.{◌≡◌, ◌≢◌, ℕ, suc, zero, ◌<◌, ◌≤◌, ◌+◌, ◌*◌, ◌↔◌, IsTrue, Bool, false, ℤ, pos, neg_ℤ, nat_abs, List, length, take, Contains, slice_index_or, []}
+use Rattle.l2_cnf.specs.Lit.{code_of}
 
 -- the reason of a literal is 0 where it was decided, else the number of a clause, the first of which has 1
 pub record Past : Type 0 where
@@ -12,6 +13,11 @@ pub record IsPlaced (literals : List ℤ) (reasons places : List ℕ) (variables
   pub reasons_room : variables < length reasons
   pub places_room : variables < length places
   pub at : (k : ℕ) → k < length literals → slice_index_or places (nat_abs (slice_index_or literals k (pos 0))) 0 ≡ k
+
+-- by their codes, which literals are true
+pub record AreTold (literals : List ℤ) (truths : List Bool) (variables : ℕ) : Type 0 where
+  pub room : 2 * variables + 2 ≤ length truths
+  pub told : (l : ℤ) → IsTrue (slice_index_or truths (code_of l) false) ↔ Contains literals l
 
 -- a clause made the literal at k true: its other literals were false before
 pub record IsReason (literals : List ℤ) (k : ℕ) (clause : List ℤ) : Type 0 where

@@ -11,19 +11,21 @@ use std::marker::Model;
 #[derive(Drop)]
 pub struct History {
     trail: Trail,
+    truths: Vec<bool>,
     reasons: Vec<u64>,
     places: Vec<u64>,
 }
 
 impl Model for History {
     ghost use Rattle.std.specs.Prelude.{length, take};
-    ghost use Rattle.l2_watch.specs.Past.{Past, IsPlaced};
+    ghost use Rattle.l2_watch.specs.Past.{Past, IsPlaced, AreTold};
 
     ghost Value = { Past };
 
     ghost view = { λ a. record { literals = a.trail.literals; reasons = take (length a.trail.literals) a.reasons.items; variables = a.trail.variables } };
 
-    ghost invariant = { λ a. IsPlaced a.trail.literals a.reasons.items a.places.items a.trail.variables };
+    ghost invariant = { λ a. (IsPlaced a.trail.literals a.reasons.items a.places.items a.trail.variables)
+        × (AreTold a.trail.literals a.truths.items a.trail.variables) };
 }
 
 impl History {
@@ -33,10 +35,12 @@ impl History {
         ensures variables { IfOk result (λ h. h.variables ≡ variables) }
     {
         let trail = Trail::new(alloc, variables)?;
+        let truths = vec![in alloc; false; 2 * variables as usize + 2]?;
         let reasons = vec![in alloc; 0; variables as usize + 1]?;
         let places = vec![in alloc; 0; variables as usize + 1]?;
         Ok(History {
             trail,
+            truths,
             reasons,
             places,
         })
@@ -83,14 +87,14 @@ impl History {
         requires { nat_abs l ≤ self.now.variables }
         ensures { IsTrue result ↔ Contains self.now.literals l }
     {
-        self.trail.is_true(l)
+        self.truths[l.code() as usize]
     }
 
     pub fn is_false(&self, l: Lit) -> bool
         requires { nat_abs l ≤ self.now.variables }
         ensures { IsTrue result ↔ Contains self.now.literals (neg_ℤ l) }
     {
-        self.trail.is_false(l)
+        self.truths[l.negated().code() as usize]
     }
 
     pub fn variables(&self) -> u64
@@ -109,6 +113,7 @@ impl History {
         let at = self.trail.len();
         self.reasons[at] = reason;
         self.places[l.var() as usize] = at as u64;
+        self.truths[l.code() as usize] = true;
         self.trail.push(l);
     }
 
@@ -119,6 +124,8 @@ impl History {
         ensures reasons { self.new.reasons ≡ take (length self.old.literals - 1) self.old.reasons }
         ensures variables { self.new.variables ≡ self.old.variables }
     {
+        let last = self.trail.get(self.trail.len() - 1);
+        self.truths[last.code() as usize] = false;
         self.trail.pop();
     }
 
