@@ -1,9 +1,9 @@
 -- Entries of lists: what they name as lists and clauses grow.
-use Rattle.std.proofs.Common.{◌≡◌, ◌≢◌, ◌⊎◌, inl, inr, ℕ, suc, zero, ◌+◌, ◌-◌, ◌*◌, ◌/◌, ◌%◌, ◌<◌, ◌≤◌, List, ◌++◌, [], ◌∷◌, length, get_or, set, take, map, refl, sym, ap, ◌∙◌, subst, arith, Bool, true, false, eqb, cond}
+use Rattle.std.proofs.Common.{◌≡◌, ◌⊎◌, inl, inr, ℕ, suc, zero, ◌-◌, ◌/◌, ◌%◌, ◌<◌, ◌≤◌, List, ◌++◌, [], ◌∷◌, length, get_or, set, take, map, refl, sym, ap, ◌∙◌, subst, arith, Bool, true, false, eqb, cond}
 use Rattle.std.specs.Prelude.{ℤ, pos, negsuc, nat_abs, Contains, Vec}
 use Rattle.std.specs.declared.alloc.Global.{Global}
 use Rattle.std.proofs.lemmas.Bool.{cases_lt, cases_eq}
-use Rattle.std.proofs.lemmas.List.{get_or-set_same, get_or-set_other, length-set, get_or_default, get_or_past, get_or_append_left, get_or_push, length_push, take-append-le, take_all, get_or-take, length-take-le, set-get_or, set-set, map-set, map_push, get_or-map, length-map}
+use Rattle.std.proofs.lemmas.List.{get_or-set_same, get_or-set_other, length-set, get_or_past, get_or_append_left, get_or_push, length_push, take-append-le, take_all, get_or-take, length-take-le, set-get_or, set-set, map-set, map_push, get_or-map, length-map}
 use Rattle.std.proofs.lemmas.List.Elements.{Contains-push_cases}
 use Rattle.l2_cnf.specs.Lit.{code_of, literal_of, positive, code_of-literal_of}
 use Rattle.l2_watch.specs.declared.entry.Entry.{Entry}

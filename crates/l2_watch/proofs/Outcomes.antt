@@ -1,5 +1,5 @@
 -- What the answers of the search rest on.
-use Rattle.std.proofs.Common.{◌≡◌, ◌≢◌, ◌⊎◌, inl, inr, ℕ, ◌≤◌, List, ◌++◌, [], ◌∷◌, take, sym, ◌∙◌, subst, arith, Bool, true, false}
+use Rattle.std.proofs.Common.{◌≡◌, ◌⊎◌, inl, inr, ℕ, ◌≤◌, List, ◌++◌, [], ◌∷◌, sym, ◌∙◌, subst, Bool, true, false}
 use Rattle.std.specs.Prelude.{ℤ, nat_abs, neg_ℤ, Contains}
 use Rattle.std.proofs.lemmas.List.Elements.{Contains-append_cases, Contains-push_cases, Contains-append_right}
 use Rattle.l2_cnf.specs.Logic.{Conflicts, Follows, Satisfies, HasTrue, literal_true, Settles}

@@ -1,6 +1,6 @@
 use Rattle.std.proofs.Common.{◌≡◌, ◌-◌, ◌++◌, ◌∷◌, ◌<◌, [], sym, ap, ◌∙◌, set, get_or, length, take, arith, vec_len}
 use Rattle.std.proofs.lemmas.List.{map-set, get_or-map, length-set}
-use Rattle.l2_watch.specs.Visit.{entries_of, entered}
+use Rattle.l2_watch.specs.Visit.{entries_of}
 use Rattle.l2_watch.proofs.Entries.{back_from, entries_length}
 use Rattle.l2_watch.proofs.looks.take_back.Goals as goal
 

@@ -3,7 +3,7 @@ use Rattle.std.specs.Prelude.{ℤ, Contains}
 use Rattle.std.proofs.lemmas.List.{get_or-map, length-set, length-map, map-set}
 use Rattle.l2_cnf.specs.Trail.{AreOver}
 use Rattle.l2_watch.specs.declared.entry.Entry.{Entry}
-use Rattle.l2_watch.specs.Visit.{AreGuarded, ArePairs, AreEntries, indices_of}
+use Rattle.l2_watch.specs.Visit.{AreGuarded, ArePairs, indices_of}
 use Rattle.l2_watch.specs.Handled.{IsHandled}
 use Rattle.l2_watch.specs.declared.visit.Step.TheVariants.{Keeps, Moved}
 use Rattle.l2_watch.proofs.Visits.{handled_consistent, visited_keeps, visited_moved, visited_listed, visited_all, visited_done, parts_then}

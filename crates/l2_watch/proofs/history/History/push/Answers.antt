@@ -1,4 +1,4 @@
-use Rattle.std.proofs.Common.{◌≡◌, ◌≤◌, sym, ap, ◌∙◌, subst, arith}
+use Rattle.std.proofs.Common.{◌≡◌, ◌≤◌, sym, ap, subst, arith}
 use Rattle.std.specs.Prelude.{nat_abs, Contains}
 use Rattle.l2_watch.proofs.Moves.{code_within}
 use Rattle.l2_watch.proofs.Pasts.{IsPlaced-push, AreTold-push}
