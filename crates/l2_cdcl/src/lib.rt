@@ -5,6 +5,8 @@ mod analysis;
 mod answer;
 mod engine;
 mod heap;
+mod hints;
+mod log;
 mod marks;
 mod model;
 mod order;

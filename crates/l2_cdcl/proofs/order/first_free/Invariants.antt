@@ -1,4 +1,4 @@
-use Rattle.std.proofs.Common.{◌≡◌, ◌≤◌, ◌<◌, ℕ}
+use Rattle.std.proofs.Common.{◌≤◌}
 use Rattle.std.specs.Prelude.{ℤ, nat_abs}
 use Rattle.l2_cdcl.specs.Choice.{IsFree}
 use Rattle.l2_cdcl.proofs.order.first_free.Given as goal
