@@ -9,7 +9,7 @@ use Rattle.l2_cnf.specs.Logic.{literal_true, Satisfies, Follows, Settles}
 use Rattle.l2_cnf.proofs.Laws.{decide, not_both, no_model, same_or_not, one_in}
 use Rattle.l2_cnf.proofs.Models.{MakesTrue-literal_true}
 use Rattle.l2_watch.specs.Board.{Board}
-use Rattle.l2_cdcl.specs.Choice.{HasFree}
+use Rattle.l2_order.specs.Choice.{HasFree}
 use Rattle.l2_cdcl.specs.Learning.{AreLearnt, IsLearning}
 use Rattle.l2_cdcl.specs.Search.{Search, IsWhole}
 use Rattle.l2_cdcl.specs.Searched.{IsSearch, IsSearched}

@@ -1,6 +1,5 @@
 pub mod Numbers
 pub mod Analysis
-pub mod Choice
 pub mod Level
 pub mod Log
 pub mod Chain

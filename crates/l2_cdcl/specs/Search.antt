@@ -6,7 +6,7 @@ use Rattle.l2_cnf.specs.Steps.{Step}
 use Rattle.l2_watch.specs.Board.{Board, decision_of}
 use Rattle.l2_watch.specs.Watch.{IsClosed}
 use Rattle.l2_cdcl.specs.Learning.{learnt_of, added_of}
-use Rattle.l2_cdcl.specs.Choice.{HasFree}
+use Rattle.l2_order.specs.Choice.{HasFree}
 use Rattle.l2_cdcl.specs.Level.{IsRootConflict}
 use Rattle.l2_cdcl.specs.Log.{Logged, IsKeptLog}
 use Rattle.l2_cdcl.specs.declared.engine.Turn.{Turn}

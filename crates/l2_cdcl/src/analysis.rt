@@ -11,8 +11,8 @@ ghost use Rattle.l2_cnf.specs.Steps.{Leads};
 
 use crate::hints::Hints;
 use crate::marks::Marks;
-use crate::order::Order;
 use l2_cnf::Lit;
+use l2_order::Order;
 use l2_watch::Watch;
 use smallvec::SmallVec;
 use std::alloc::{AllocError, Global};
