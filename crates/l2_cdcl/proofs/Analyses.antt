@@ -1,20 +1,21 @@
 -- The analysis of a conflict, backwards over the trail.
-use Rattle.std.proofs.Common.{◌≡◌, ◌≢◌, ◌⊎◌, inl, inr, ℕ, suc, zero, ◌+◌, ◌-◌, ◌<◌, ◌≤◌, List, ◌++◌, [], ◌∷◌, length, get_or, set, take, drop, refl, sym, ap, ◌∙◌, subst, arith, Bool, true, false}
-use Rattle.std.specs.Prelude.{ℤ, pos, negsuc, nat_abs, neg_ℤ, Contains}
+use Rattle.std.proofs.Common.{◌≡◌, ◌≢◌, ◌⊎◌, inl, inr, ℕ, suc, zero, ◌+◌, ◌-◌, ◌<◌, ◌≤◌, List, ◌++◌, [], ◌∷◌, length, get_or, set, take, refl, sym, ap, ◌∙◌, subst, arith, Bool, true, false}
+use Rattle.std.specs.Prelude.{ℤ, pos, nat_abs, neg_ℤ, Contains}
 use Rattle.std.proofs.lemmas.Bool.{cases_lt, cases_eq}
 use Rattle.std.proofs.lemmas.List.{get_or_default, get_or-take, length-take-le, get_or-set_same, get_or-set_other}
 use Rattle.std.proofs.lemmas.List.Elements.{Contains-append_left, Contains-push, Contains-push_cases}
 use lib.IntN.{neg_ℤ-neg_ℤ}
 use Rattle.l2_cnf.proofs.Laws.{nat_abs-neg_ℤ}
 use Rattle.l2_cnf.specs.Trail.{AreApart}
-use Rattle.l2_cnf.specs.Logic.{Propagates, assumed, unit, Conflicts}
+use Rattle.l2_cnf.proofs.Trails.{AreApart-push}
+use Rattle.l2_cnf.specs.Logic.{Propagates, assumed}
 use Rattle.l2_watch.specs.Past.{IsReason}
 use Rattle.l2_watch.specs.Watch.{IsClosed, Refutes}
-use Rattle.l2_watch.specs.Board.{Board, IsBoard, start_of, decision_of, HasCause, AreCaused}
-use Rattle.l2_watch.proofs.Closed.{Refutes-resolve, Refutes-clause, no_conflict_within}
+use Rattle.l2_watch.specs.Board.{Board, IsBoard, start_of, decision_of, HasCause}
+use Rattle.l2_watch.proofs.Closed.{Refutes-resolve, no_conflict_within}
 use Rattle.l2_watch.specs.Visit.{AreFalse}
 use Rattle.l2_cdcl.specs.Level.{IsPresent}
-use Rattle.l2_cdcl.specs.Analysis.{IsMarked, AreUnmarked, IsFalseBefore, IsOpen, IsAside, IsMore, IsTraced, IsPoint}
+use Rattle.l2_cdcl.specs.Analysis.{IsMarked, AreUnmarked, IsFalseBefore, IsOpen, IsAside, IsMore, HasVariable, IsTraced, IsLeft, IsPoint}
 
 -- more literals are refuted too
 pub Refutes-more : (list : List (List ℤ)) (few many : ℤ → Type 0) → ((m : ℤ) → few m → many m) → Refutes list few → Refutes list many
@@ -47,6 +48,32 @@ open_end trail low start mid end marks aside none h m (inr (inr (j, a, b, c, d))
   | inr above ↦ absurd (none j above b (subst (IsMarked marks) (sym (nat_abs-neg_ℤ m) ∙ ap nat_abs (sym c)) d))
 ]
 
+-- a literal that became false before a place is open there
+pub open_nearer : (trail : List ℤ) (low start k j : ℕ) (marks : List Bool) (aside : List ℤ) (m : ℤ) → AreApart trail → k < length trail → j < k → get_or trail j (pos 0) ≡ neg_ℤ m → IsOpen trail low start (length trail) marks aside m → IsOpen trail low start k marks aside m
+open_nearer trail low start k j marks aside m apart h b e (inl put) = inl put
+open_nearer trail low start k j marks aside m apart h b e (inr (inl base)) = inr (inl base)
+open_nearer trail low start k j marks aside m apart h b e (inr (inr (i, a, c, f, d))) =
+    let same : i ≡ j = same_place trail i j m apart c (omega (arith, h, b)) f e in
+    inr (inr (i, a, omega (arith, same, b), f, d))
+
+-- what is open up to k is the negation of the literal there, or open before it
+pub open_rest : (trail : List ℤ) (low start k : ℕ) (marks marks' : List Bool) (aside aside' : List ℤ) (m : ℤ) → IsMore marks marks' aside aside' → IsOpen trail low start (k + 1) marks aside m → (m ≡ neg_ℤ (get_or trail k (pos 0))) ⊎ IsOpen trail low start k marks' aside' m
+open_rest trail low start k marks marks' aside aside' m more (inl put) = inr (inl (more.put m put))
+open_rest trail low start k marks marks' aside aside' m more (inr (inl base)) = inr (inr (inl base))
+open_rest trail low start k marks marks' aside aside' m more (inr (inr (j, a, b, c, d))) = elim (cases_lt j k) [
+  | inl earlier ↦ inr (inr (inr (j, a, earlier, c, more.marked (nat_abs m) d)))
+  | inr same ↦
+      let e : j ≡ k = omega (arith, b, same) in
+      inl (sym (neg_ℤ-neg_ℤ m) ∙ ap neg_ℤ (sym c ∙ ap (λ x. get_or trail x (pos 0)) e))
+]
+
+-- the other literals of the reason of the literal at k are open before it
+pub open_others : (trail : List ℤ) (low start k : ℕ) (reason : List ℤ) (marks : List Bool) (aside : List ℤ) → AreApart trail → k < length trail → IsReason trail k reason → ((m : ℤ) → Contains reason m → m ≢ get_or trail k (pos 0) → IsOpen trail low start (length trail) marks aside m)
+    → (m : ℤ) → Contains reason m → m ≢ get_or trail k (pos 0) → IsOpen trail low start k marks aside m
+open_others trail low start k reason marks aside apart h is others m c ne =
+    let place = is.others m c ne in
+    open_nearer trail low start k place.0 marks aside m apart h place.1 place.2 (others m c ne)
+
 -- a step: the other literals of the reason of the literal at k are open now
 pub trace_step : (clauses : List (List ℤ)) (trail : List ℤ) (low start k : ℕ) (reason : List ℤ) (marks marks' : List Bool) (aside aside' : List ℤ) → AreApart trail → k < length trail
     → Contains clauses reason → IsReason trail k reason → IsMore marks marks' aside aside' → ((m : ℤ) → Contains reason m → m ≢ get_or trail k (pos 0) → IsOpen trail low start (length trail) marks' aside' m)
@@ -54,28 +81,20 @@ pub trace_step : (clauses : List (List ℤ)) (trail : List ℤ) (low start k : �
 trace_step clauses trail low start k reason marks marks' aside aside' apart h inside is more others refutes =
     let l : ℤ = get_or trail k (pos 0) in
     let back : l ≡ neg_ℤ (neg_ℤ l) = sym (neg_ℤ-neg_ℤ l) in
-    let nearer : (m : ℤ) (j : ℕ) → j < k → get_or trail j (pos 0) ≡ neg_ℤ m → IsOpen trail low start (length trail) marks' aside' m → IsOpen trail low start k marks' aside' m = λ m j b e. elim [
-      | inl put ↦ inl put
-      | inr (inl base) ↦ inr (inl base)
-      | inr (inr (i, a, c, f, d)) ↦
-          let same : i ≡ j = same_place trail i j m apart c (omega arith) f e in
-          inr (inr (i, a, omega (arith, same, b), f, d))
-    ] in
     Refutes-resolve clauses (IsOpen trail low start (k + 1) marks aside) (IsOpen trail low start k marks' aside') reason (neg_ℤ l) inside (subst (Contains reason) back is.stands)
-    (λ m c ne.
-    let differs : m ≢ l = λ e. ne (e ∙ back) in
-    let place = is.others m c differs in
-    nearer m place.0 place.1 place.2 (others m c differs))
-    (λ m open_one. elim open_one [
-      | inl put ↦ inr (inl (more.put m put))
-      | inr (inl base) ↦ inr (inr (inl base))
-      | inr (inr (j, a, b, c, d)) ↦ elim (cases_lt j k) [
-        | inl earlier ↦ inr (inr (inr (j, a, earlier, c, more.marked (nat_abs m) d)))
-        | inr same ↦
-            let e : j ≡ k = omega arith in
-            inl (sym (neg_ℤ-neg_ℤ m) ∙ ap neg_ℤ (sym c ∙ ap (λ x. get_or trail x (pos 0)) e))
-      ]
-    ]) refutes
+    (λ m c ne. open_others trail low start k reason marks' aside' apart h is others m c (λ e. ne (e ∙ back)))
+    (λ m open_one. open_rest trail low start k marks marks' aside aside' m more open_one) refutes
+
+-- where nothing below k is marked, no more is open than the literal at k and what was put aside
+pub open_left : (trail : List ℤ) (low start k : ℕ) (marks : List Bool) (aside : List ℤ) → AreUnmarked trail marks start k → (m : ℤ) → IsOpen trail low start (k + 1) marks aside m → IsLeft trail low k aside m
+open_left trail low start k marks aside none m (inl put) = inr (inl put)
+open_left trail low start k marks aside none m (inr (inl base)) = inr (inr base)
+open_left trail low start k marks aside none m (inr (inr (j, a, b, c, d))) = elim (cases_lt j k) [
+  | inl earlier ↦ absurd (none j a earlier (subst (IsMarked marks) (sym (nat_abs-neg_ℤ m) ∙ ap nat_abs (sym c)) d))
+  | inr same ↦
+      let e : j ≡ k = omega (arith, b, same) in
+      inl (sym (neg_ℤ-neg_ℤ m) ∙ ap neg_ℤ (sym c ∙ ap (λ x. get_or trail x (pos 0)) e))
+]
 
 -- where nothing below k is marked, the literal at k is the first point through which the conflict goes
 pub first_point : (clauses : List (List ℤ)) (trail : List ℤ) (low start k : ℕ) (marks : List Bool) (aside : List ℤ) → AreUnmarked trail marks start k → IsTraced clauses trail low start k marks aside → IsPoint clauses trail low start k aside
@@ -83,16 +102,10 @@ first_point clauses trail low start k marks aside none is = record {
   first = is.first;
   within = is.within;
   below = is.put.below;
-  refutes = Refutes-more clauses (IsOpen trail low start (k + 1) marks aside) (λ m. (m ≡ neg_ℤ (get_or trail k (pos 0))) ⊎ ((Contains aside m) ⊎ (IsFalseBefore trail low m))) (λ m open_one. elim open_one [
-    | inl put ↦ inr (inl put)
-    | inr (inl base) ↦ inr (inr base)
-    | inr (inr (j, a, b, c, d)) ↦ elim (cases_lt j k) [
-      | inl earlier ↦ absurd (none j a earlier (subst (IsMarked marks) (sym (nat_abs-neg_ℤ m) ∙ ap nat_abs (sym c)) d))
-      | inr same ↦
-          let e : j ≡ k = omega arith in
-          inl (sym (neg_ℤ-neg_ℤ m) ∙ ap neg_ℤ (sym c ∙ ap (λ x. get_or trail x (pos 0)) e))
-    ]
-  ]) is.refutes;
+  refutes = Refutes-more clauses (IsOpen trail low start (k + 1) marks aside) (IsLeft trail low k aside) (open_left trail low start k marks aside none) is.refutes;
+  apart = is.put.apart;
+  here = is.known (nat_abs (get_or trail k (pos 0))) is.here;
+  known = λ m h. is.known (nat_abs m) (is.put.noted m h);
 }
 
 part_has : (trail : List ℤ) (n j : ℕ) (m : ℤ) → n ≤ length trail → j < n → get_or trail j (pos 0) ≡ m → Contains (take n trail) m
@@ -136,6 +149,13 @@ marked_now marks v h = get_or-set_same marks v true false h
 marked_was : (marks : List Bool) (v w : ℕ) → IsMarked (set marks v true) w → w ≢ v → IsMarked marks w
 marked_was marks v w is ne = sym (get_or-set_other marks v w true false ne) ∙ is
 
+-- a mark after one more
+pub marked_from : (marks : List Bool) (v w : ℕ) → IsMarked (set marks v true) w → IsMarked marks w ⊎ (v ≡ w)
+marked_from marks v w is = elim (cases_eq w v) [
+  | inl e ↦ inr (sym e)
+  | inr ne ↦ inl (marked_was marks v w is ne)
+]
+
 pub more_same : (marks : List Bool) (aside : List ℤ) → IsMore marks marks aside aside
 more_same marks aside = record { marked = λ v h. h; put = λ m h. h }
 
@@ -164,13 +184,15 @@ module _ (trail : List ℤ) (low start place : ℕ) (marks : List Bool) (aside :
         | inl s ↦ absurd (let one = one_place trail place j l m apart h (omega (arith, b, most)) e f s in omega (arith, one.0, b, high))
         | inr ne ↦ is.marked m (j, b, f) (marked_was marks (nat_abs l) (nat_abs m) k ne)
       ];
+      noted = λ m k. marked_more marks (nat_abs l) (nat_abs m) room (is.noted m k);
+      apart = is.apart;
     },
     inr (inr (place, high, h, e, marked_now marks (nat_abs l) room)),
   )
 
   -- a literal of a lower level is put aside
-  pub mark_below : IsAside trail low start marks aside → AreApart trail → start ≤ length trail → nat_abs l < length marks → place < start → (IsMore marks (set marks (nat_abs l) true) aside (aside ++ l ∷ [])) × (IsAside trail low start (set marks (nat_abs l) true) (aside ++ l ∷ [])) × (IsOpen trail low start (length trail) (set marks (nat_abs l) true) (aside ++ l ∷ []) l)
-  mark_below is apart most room high = (
+  pub mark_below : IsAside trail low start marks aside → AreApart trail → start ≤ length trail → nat_abs l < length marks → ¬ IsMarked marks (nat_abs l) → place < start → (IsMore marks (set marks (nat_abs l) true) aside (aside ++ l ∷ [])) × (IsAside trail low start (set marks (nat_abs l) true) (aside ++ l ∷ [])) × (IsOpen trail low start (length trail) (set marks (nat_abs l) true) (aside ++ l ∷ []) l)
+  mark_below is apart most room unmarked high = (
     record { marked = λ v k. marked_more marks (nat_abs l) v room k; put = λ m k. Contains-append_left aside (l ∷ []) m k },
     record {
       below = λ m k. elim (Contains-push_cases aside l m k) [
@@ -184,6 +206,11 @@ module _ (trail : List ℤ) (low start place : ℕ) (marks : List Bool) (aside :
           | inr put ↦ inr (Contains-append_left aside (l ∷ []) m put)
         ]
       ];
+      noted = λ m k. elim (Contains-push_cases aside l m k) [
+        | inl old ↦ marked_more marks (nat_abs l) (nat_abs m) room (is.noted m old)
+        | inr s ↦ subst (λ x. IsMarked (set marks (nat_abs l) true) (nat_abs x)) s (marked_now marks (nat_abs l) room)
+      ];
+      apart = AreApart-push aside l is.apart (λ m k same. unmarked (subst (IsMarked marks) same (is.noted m k)));
     },
     inl (Contains-push aside l),
   )
@@ -230,17 +257,15 @@ module _ (b : Board) (is : IsBoard b) (low start : ℕ) (present : IsPresent b l
       let (n, g, f) = present.last in
       omega (arith, low_k, e, f, is.levels.rising j n (omega (arith, h, g)) (omega (arith, g)))
 
-  -- the clause whose literals are all false is refuted by what is open
-  pub begin_refutes : (clause : List ℤ) (but : ℤ) (marks : List Bool) (aside : List ℤ) → Contains b.clauses clause → AreFalse b.past.literals clause → Contains b.past.literals but → ((m : ℤ) → Contains clause m → m ≢ but → IsOpen b.past.literals low start (length b.past.literals) marks aside m) → Refutes b.clauses (IsOpen b.past.literals low start (length b.past.literals) marks aside)
-  begin_refutes clause but marks aside c false_ones true_one others = Refutes-more b.clauses (Contains clause) (IsOpen b.past.literals low start (length b.past.literals) marks aside) (λ m h. others m h (λ e. is.consistent m (subst (Contains b.past.literals) (sym e) true_one) (false_ones m h))) (Refutes-clause b.clauses clause c)
-
   -- the trace goes on
-  pub traced_to : (k end : ℕ) (marks : List Bool) (aside : List ℤ) → start ≤ k → k < end → end ≤ length b.past.literals → IsAside b.past.literals low start marks aside → AreUnmarked b.past.literals marks (k + 1) end → Refutes b.clauses (IsOpen b.past.literals low start end marks aside) → IsTraced b.clauses b.past.literals low start k marks aside
-  traced_to k end marks aside first last within put none refutes = record {
+  pub traced_to : (k end : ℕ) (marks : List Bool) (aside : List ℤ) → start ≤ k → k < end → end ≤ length b.past.literals → IsAside b.past.literals low start marks aside → AreUnmarked b.past.literals marks (k + 1) end → IsMarked marks (nat_abs (get_or b.past.literals k (pos 0))) → ((v : ℕ) → IsMarked marks v → HasVariable b.clauses v) → Refutes b.clauses (IsOpen b.past.literals low start end marks aside) → IsTraced b.clauses b.past.literals low start k marks aside
+  traced_to k end marks aside first last within put none here known refutes = record {
     first = first;
     within = omega (arith, last, within);
     put = put;
     refutes = Refutes-more b.clauses (IsOpen b.past.literals low start end marks aside) (IsOpen b.past.literals low start (k + 1) marks aside) (open_end b.past.literals low start (k + 1) end marks aside none (omega (arith, first))) refutes;
+    here = here;
+    known = known;
   }
 
   -- something is open

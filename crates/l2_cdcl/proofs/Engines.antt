@@ -1,24 +1,39 @@
 -- What a search keeps as it goes on.
-use Rattle.std.proofs.Common.{◌≡◌, ◌≢◌, ◌⊎◌, inl, inr, ℕ, suc, zero, ◌+◌, ◌-◌, ◌<◌, ◌≤◌, List, ◌++◌, [], ◌∷◌, length, get_or, map, take, refl, sym, ap, ◌∙◌, subst, arith, Bool, true, false}
-use Rattle.std.specs.Prelude.{ℤ, pos, neg_ℤ, nat_abs, Contains}
-use Rattle.std.proofs.lemmas.Bool.{cases_lt, cases_eq}
-use Rattle.std.proofs.lemmas.List.{length_push, take-append-le, take_all}
+use Rattle.std.proofs.Common.{◌≡◌, ◌≢◌, ◌⊎◌, inl, inr, ℕ, ◌+◌, ◌<◌, ◌≤◌, List, ◌++◌, [], ◌∷◌, length, sym, ap, ◌∙◌, subst, arith, Bool, true, false}
+use Rattle.std.specs.Prelude.{ℤ, nat_abs, Contains}
+use Rattle.std.proofs.lemmas.List.{length_push}
 use Rattle.std.proofs.lemmas.List.Elements.{Contains-append_left, Contains-push, Contains-push_cases}
-use Rattle.l2_cnf.specs.Logic.{Satisfies, HasTrue, Follows, IsAbsorbed, Settles, Propagates, Conflicts}
+use Rattle.l2_cnf.specs.Logic.{Satisfies, HasTrue, Follows}
 use Rattle.l2_cnf.proofs.Laws.{Follows-implied}
 use Rattle.l2_watch.specs.Board.{Board}
-use Rattle.l2_cdcl.specs.Learning.{learnt_of, others_from, added_of, MayBeLearnt, AreLearnt}
-use Rattle.l2_cdcl.specs.Search.{Search, IsEngine}
+use Rattle.l2_cdcl.specs.Learning.{learnt_of, added_of}
+use Rattle.l2_cnf.specs.Lines.{step_of}
+use Rattle.l2_cnf.specs.Steps.{IsStep}
+use Rattle.l2_cdcl.specs.Log.{Logged, greatest_of, IsKeptLog}
+use Rattle.l2_cdcl.specs.Search.{IsEngine}
+use Rattle.l2_cdcl.proofs.Logs.{log_add, log_learn, log_none}
 use Rattle.l2_cdcl.proofs.Learnings.{others-added, others-learnt, learnt-same, learnt-more}
 
 -- the clauses stay
-pub IsEngine-same : (at : List ℕ) (b b' : Board) (marks marks' : List Bool) (refuted : Bool) → IsEngine at b marks refuted → b'.clauses ≡ b.clauses → (b'.ready ≡ true → b'.variables < length marks') → IsEngine at b' marks' refuted
-IsEngine-same at b b' marks marks' refuted is e room = record {
+pub IsEngine-same : (at : List ℕ) (b b' : Board) (marks marks' : List Bool) (refuted : Bool) (log : Logged) → IsEngine at b marks refuted log → b'.clauses ≡ b.clauses → (b'.ready ≡ true → b'.variables < length marks') → IsEngine at b' marks' refuted log
+IsEngine-same at b b' marks marks' refuted log is e room = record {
   within = rw e is.within;
   implied = rw e is.implied;
   found = rw e is.found;
   told = rw e is.told;
   room = room;
+  logged = rw e is.logged;
+}
+
+-- the steps stay, if they are kept
+pub IsEngine-log : (at : List ℕ) (b : Board) (marks : List Bool) (refuted : Bool) (log log' : Logged) → IsEngine at b marks refuted log → log'.kept ≡ log.kept → (log.kept ≡ true → log'.steps ≡ log.steps) → IsEngine at b marks refuted log'
+IsEngine-log at b marks refuted log log' is e same = record {
+  within = is.within;
+  implied = is.implied;
+  found = is.found;
+  told = is.told;
+  room = is.room;
+  logged = λ t. (let was : log.kept ≡ true = sym e ∙ t in subst (IsKeptLog (added_of at b.clauses) (learnt_of at b.clauses) b.clauses) (sym (same was)) (is.logged was));
 }
 
 not_yet : (at : List ℕ) (n : ℕ) → ((i : ℕ) → Contains at i → i < n) → ¬ Contains at n
@@ -46,8 +61,8 @@ satisfies_last : (v : ℕ → Bool) (list : List (List ℤ)) (clause : List ℤ)
 satisfies_last v list clause model = model clause (Contains-push list clause)
 
 -- a clause is added
-pub IsEngine-add : (at : List ℕ) (b b' : Board) (marks : List Bool) (refuted : Bool) (clause : List ℤ) → IsEngine at b marks refuted → b'.clauses ≡ b.clauses ++ clause ∷ [] → b'.ready ≡ false → IsEngine at b' marks refuted
-IsEngine-add at b b' marks refuted clause is e idle =
+pub IsEngine-add : (at : List ℕ) (b b' : Board) (marks : List Bool) (refuted : Bool) (log : Logged) (clause : List ℤ) → IsEngine at b marks refuted log → b'.clauses ≡ b.clauses ++ clause ∷ [] → b'.ready ≡ false → (log.kept ≡ true → learnt_of at b.clauses ≡ []) → IsEngine at b' marks refuted log
+IsEngine-add at b b' marks refuted log clause is e idle none =
     let added : added_of at b'.clauses ≡ added_of at b.clauses ++ clause ∷ [] = added_add at b.clauses b'.clauses clause is.within e in
     let learnt : learnt_of at b'.clauses ≡ learnt_of at b.clauses = learnt_add at b.clauses b'.clauses clause is.within e in
     record {
@@ -58,12 +73,14 @@ IsEngine-add at b b' marks refuted clause is e idle =
       found = λ t. subst (λ x. Contains x []) (sym learnt) (is.found t);
       told = λ h. is.told (subst (λ x. Contains x []) learnt h);
       room = λ t. absurd (let z : true ≡ false = sym t ∙ idle in cc);
+      logged = λ t. rw (added, learnt, e) (log_add (added_of at b.clauses) (learnt_of at b.clauses) b.clauses log.steps clause (is.logged t) (none t));
     }
 
 -- a clause is learnt
-pub IsEngine-learn : (at at' : List ℕ) (b b' : Board) (marks marks' : List Bool) (refuted refuted' : Bool) (clause : List ℤ) (n : ℕ) → IsEngine at b marks refuted → n ≡ length b.clauses → at' ≡ at ++ n ∷ [] → b'.clauses ≡ b.clauses ++ clause ∷ []
-    → ((l : ℤ) → Contains clause l → 1 ≤ nat_abs l) → Follows b.clauses clause → (b'.ready ≡ true → b'.variables < length marks') → ((clause ≡ []) × (refuted' ≡ true)) ⊎ ((clause ≢ []) × (refuted' ≡ refuted)) → IsEngine at' b' marks' refuted'
-IsEngine-learn at at' b b' marks marks' refuted refuted' clause n is e f g literals follows room end =
+pub IsEngine-learn : (at at' : List ℕ) (b b' : Board) (marks marks' : List Bool) (refuted refuted' : Bool) (log log' : Logged) (clause : List ℤ) (hints : List ℕ) (n : ℕ) → IsEngine at b marks refuted log → n ≡ length b.clauses → at' ≡ at ++ n ∷ [] → b'.clauses ≡ b.clauses ++ clause ∷ []
+    → ((l : ℤ) → Contains clause l → 1 ≤ nat_abs l) → Follows b.clauses clause → (b'.ready ≡ true → b'.variables < length marks') → ((clause ≡ []) × (refuted' ≡ true)) ⊎ ((clause ≢ []) × (refuted' ≡ refuted))
+    → log'.kept ≡ log.kept → (log.kept ≡ true → log'.steps ≡ log.steps ++ step_of (n + 1) clause hints ∷ []) → (log.kept ≡ true → IsStep b.clauses (greatest_of (added_of at b.clauses)) (length b.clauses + 1) clause hints) → IsEngine at' b' marks' refuted' log'
+IsEngine-learn at at' b b' marks marks' refuted refuted' log log' clause hints n is e f g literals follows room end same line step =
     let added : added_of at' b'.clauses ≡ added_of at b.clauses = added_learn at at' b.clauses b'.clauses clause n e f g in
     let learnt : learnt_of at' b'.clauses ≡ learnt_of at b.clauses ++ clause ∷ [] = learnt_learn at at' b.clauses b'.clauses clause n is.within e f g in
     record {
@@ -86,22 +103,19 @@ IsEngine-learn at at' b b' marks marks' refuted refuted' clause n is e f g liter
         ]
       ];
       room = room;
+      logged = λ t. (let was : log.kept ≡ true = sym same ∙ t in rw (added, learnt, g) (log_learn (added_of at b.clauses) (learnt_of at b.clauses) b.clauses log.steps log'.steps clause hints n (is.logged was) e (line was) (step was)));
     }
 
 -- nothing yet
-pub IsEngine-none : (at : List ℕ) (b : Board) (marks : List Bool) → at ≡ [] → b.clauses ≡ [] → b.ready ≡ false → IsEngine at b marks false
-IsEngine-none at b marks e f idle =
+pub IsEngine-none : (at : List ℕ) (b : Board) (marks : List Bool) (log : Logged) → at ≡ [] → b.clauses ≡ [] → b.ready ≡ false → log.steps ≡ [] → IsEngine at b marks false log
+IsEngine-none at b marks log e f idle none =
     let learnt : learnt_of at b.clauses ≡ [] = ap (λ x. learnt_of x b.clauses) e in
+    let added : added_of at b.clauses ≡ [] = ap (added_of at) f in
     record {
       within = λ i h. absurd (omega (arith, h.1, ap length e));
       implied = λ v model c h. absurd (omega (arith, h.1, ap length f));
       found = λ t. absurd (let z : false ≡ true = t in cc);
       told = λ h. absurd (omega (arith, h.1, ap length learnt));
       room = λ t. absurd (let z : true ≡ false = sym t ∙ idle in cc);
+      logged = λ t. log_none (added_of at b.clauses) (learnt_of at b.clauses) b.clauses log.steps added learnt f none;
     }
-
--- a number that was pushed and popped
-pub popped : (at pushed now : List ℕ) (n m : ℕ) → pushed ≡ at ++ n ∷ [] → m ≡ length pushed → now ≡ take (m - 1) pushed → now ≡ at
-popped at pushed now n m e same f =
-    let c : m - 1 ≡ length at = omega (arith, same, ap length e, length_push at n) in
-    f ∙ ap (λ k. take k pushed) c ∙ ap (take (length at)) e ∙ take-append-le (length at) at (n ∷ []) (omega arith) ∙ take_all (length at) at (omega arith)

@@ -1,14 +1,12 @@
 -- The clauses added and those learnt, as one list grows.
-use Rattle.std.proofs.Common.{add-one, ◌≡◌, ◌≢◌, ◌⊎◌, inl, inr, ℕ, suc, zero, ◌+◌, ◌-◌, ◌<◌, ◌≤◌, List, ◌++◌, [], ◌∷◌, length, get_or, map, refl, sym, ap, ◌∙◌, subst, arith, Bool, true, false, cond, eqb, append_assoc}
-use Rattle.std.specs.Prelude.{ℤ, nat_abs, Contains}
+use Rattle.std.proofs.Common.{◌≡◌, ◌≢◌, inl, inr, ℕ, suc, zero, ◌+◌, ◌<◌, List, ◌++◌, [], ◌∷◌, length, get_or, refl, sym, ap, ◌∙◌, subst, arith, Bool, true, false, cond, eqb}
+use Rattle.std.specs.Prelude.{ℤ, Contains}
 use Rattle.std.specs.List.{list_any}
 use Rattle.std.specs.Cmp.{nat_eq_equiv}
-use Rattle.std.proofs.lemmas.Bool.{cases_lt, cases_eq}
-use Rattle.std.proofs.lemmas.List.{get_or_default, get_or_append_left, get_or_push, length_push, map_push, length-map, get_or-map}
+use Rattle.std.proofs.lemmas.List.{get_or_default, get_or_append_left, get_or_push, map_push, length-map, get_or-map}
 use Rattle.std.proofs.lemmas.List.Elements.{Contains-append_left, Contains-append_right, Contains-append_cases, Contains-push, Contains-push_cases}
 use Rattle.std.proofs.lemmas.Map.Views.{list_any-from_Contains, Contains-from_any}
-use Rattle.l2_cnf.specs.Logic.{Satisfies, HasTrue, Follows, IsAbsorbed, Settles, Propagates, Conflicts}
-use Rattle.l2_cdcl.specs.Learning.{learnt_of, others_from, added_of, MayBeLearnt, AreLearnt}
+use Rattle.l2_cdcl.specs.Learning.{learnt_of, others_from, added_of}
 use Rattle.l2_cdcl.proofs.Measure.{eqb_same}
 
 -- an index that isn't among these

@@ -2,8 +2,11 @@ pub mod Measure
 pub mod Analyses
 pub mod Stamps
 pub mod Targets
+pub mod Chains
 pub mod Learnings
+pub mod Logs
 pub mod Engines
 pub mod Reached
 pub mod Searches
 pub mod Models
+pub mod Solvers

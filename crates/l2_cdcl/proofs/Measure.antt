@@ -1,6 +1,6 @@
 -- Clauses of which none is absorbed by those before it are at most as many as there are sets of literals.
-use Rattle.std.proofs.Common.{◌≡◌, ◌≢◌, ◌⊎◌, inl, inr, ℕ, suc, zero, ◌+◌, ◌-◌, ◌*◌, ◌^◌, ◌<◌, ◌≤◌, List, ◌++◌, [], ◌∷◌, length, map, refl, sym, ap, ◌∙◌, subst, arith, eqb, true, false, cond, Bool, eq-eqb}
-use Rattle.std.specs.Prelude.{ℤ, nat_abs, neg_ℤ, Contains}
+use Rattle.std.proofs.Common.{◌≡◌, ◌≢◌, inl, inr, ℕ, suc, zero, ◌+◌, ◌-◌, ◌*◌, ◌^◌, ◌<◌, ◌≤◌, List, ◌++◌, [], ◌∷◌, length, map, refl, sym, ap, ◌∙◌, subst, arith, eqb, true, false, cond, Bool}
+use Rattle.std.specs.Prelude.{ℤ, Contains}
 use Rattle.std.specs.List.{list_any, IsDistinct}
 use Rattle.std.proofs.lemmas.Bool.Decides.{nat_tests}
 use Rattle.std.proofs.lemmas.Bool.{cases_eq}
@@ -14,7 +14,7 @@ use Rattle.std.proofs.lemmas.Map.Keys.{IsDistinct-push}
 use Rattle.std.proofs.lemmas.Map.Views.{list_any-from_Contains, Contains-from_any}
 use Rattle.l2_cnf.specs.Lit.{code_of}
 use Rattle.l2_cnf.specs.Trail.{AreOver}
-use Rattle.l2_cnf.specs.Logic.{Propagates, assumed, unit, Conflicts, NegationBut, IsAbsorbed}
+use Rattle.l2_cnf.specs.Logic.{assumed, unit, IsAbsorbed}
 use Rattle.l2_watch.proofs.Moves.{code_of_injective, code_within}
 use Rattle.l2_cdcl.specs.Numbers.{has, number_of}
 

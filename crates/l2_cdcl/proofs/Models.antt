@@ -1,19 +1,16 @@
 -- The answers of a search: models and cores.
-use Rattle.std.proofs.Common.{◌≡◌, ◌≢◌, ◌⊎◌, inl, inr, ℕ, suc, zero, ◌+◌, ◌-◌, ◌<◌, ◌≤◌, List, ◌++◌, [], ◌∷◌, length, get_or, set, map, take, refl, sym, ap, ◌∙◌, subst, arith, Bool, true, false, append_assoc}
-use Rattle.std.specs.Prelude.{Option, None, Some, ℤ, pos, neg_ℤ, nat_abs, Contains}
-use Rattle.std.proofs.lemmas.Bool.{cases_lt, cases_eq}
-use Rattle.std.proofs.lemmas.List.{get_or-set_same, get_or-set_other, length-set, get_or_default, get_or-take, length-take-le, append-nil}
-use Rattle.std.proofs.lemmas.List.Elements.{Contains-append_left, Contains-append_right, Contains-append_cases, Contains-push, Contains-push_cases}
-use lib.IntN.{neg_ℤ-neg_ℤ}
+use Rattle.std.proofs.Common.{◌≡◌, ◌≢◌, ◌⊎◌, inl, inr, ℕ, suc, zero, ◌-◌, ◌<◌, ◌≤◌, List, ◌++◌, [], ◌∷◌, length, set, take, refl, sym, ap, ◌∙◌, subst, arith, Bool, true, false, append_assoc}
+use Rattle.std.specs.Prelude.{Option, None, Some, ℤ, neg_ℤ, nat_abs, Contains}
+use Rattle.std.proofs.lemmas.List.{get_or-set_same, get_or-set_other, get_or-take, length-take-le, append-nil}
+use Rattle.std.proofs.lemmas.List.Elements.{Contains-append_left, Contains-append_right, Contains-append_cases}
 use Rattle.l2_cnf.specs.Lit.{positive}
-use Rattle.l2_cnf.specs.Trail.{AreOver, AreApart}
-use Rattle.l2_cnf.specs.Assignment.{value_of, MakesTrue, IsSatisfied, completed}
-use Rattle.l2_cnf.specs.Logic.{literal_true, HasTrue, Satisfies, Follows, IsAbsorbed, Settles, Propagates, assumed, Conflicts, Negation}
-use Rattle.l2_cnf.proofs.Laws.{decide, not_both, no_model, same_or_not, one_in, more_conflicts, nat_abs-neg_ℤ}
+use Rattle.l2_cnf.specs.Assignment.{value_of, MakesTrue, completed}
+use Rattle.l2_cnf.specs.Logic.{literal_true, Satisfies, Follows, Settles}
+use Rattle.l2_cnf.proofs.Laws.{decide, not_both, no_model, same_or_not, one_in}
 use Rattle.l2_cnf.proofs.Models.{MakesTrue-literal_true}
-use Rattle.l2_watch.specs.Board.{Board, IsBoard}
-use Rattle.l2_cdcl.specs.Choice.{IsFree, HasFree}
-use Rattle.l2_cdcl.specs.Learning.{MayBeLearnt, AreLearnt, IsLearning}
+use Rattle.l2_watch.specs.Board.{Board}
+use Rattle.l2_order.specs.Choice.{HasFree}
+use Rattle.l2_cdcl.specs.Learning.{AreLearnt, IsLearning}
 use Rattle.l2_cdcl.specs.Search.{Search, IsWhole}
 use Rattle.l2_cdcl.specs.Searched.{IsSearch, IsSearched}
 use Rattle.l2_cdcl.specs.Answering.{IsModel, IsCore}
@@ -103,15 +100,6 @@ core_is s assumptions core n facts e h settled =
 -- an empty clause settles all
 pub empty_settles : (s : Search) (core : List ℤ) → IsSearch s → Contains s.learnt [] → Settles s.board.clauses core
 empty_settles s core facts h = inr ([], facts.inside [] (Contains-append_right s.added s.learnt [] h), (λ m k. absurd (omega (arith, k.1))))
-
--- what is settled with no assumption refutes the empty clause
-pub settled_empty : (clauses : List (List ℤ)) (assumptions : List ℤ) (n : ℕ) → n ≡ 0 → Settles clauses (take n assumptions) → Follows clauses []
-settled_empty clauses assumptions n e settled =
-    let s : Settles clauses (take 0 assumptions) = subst (λ k. Settles clauses (take k assumptions)) e settled in
-    elim s [
-      | inl (l, a, b) ↦ absurd (omega (arith, a.1))
-      | inr conflict ↦ more_conflicts clauses clauses (Contains []) (Negation []) (λ c h. h) (λ m h. absurd (omega (arith, h.1))) conflict
-    ]
 
 -- nothing was learnt
 pub learning_none : (assumptions : List ℤ) (added old new : List (List ℤ)) → new ≡ old → IsLearning assumptions added old new

@@ -1,22 +1,20 @@
 -- What the decisions of a board lead to.
-use Rattle.std.proofs.Common.{◌≡◌, ◌≢◌, ◌⊎◌, inl, inr, ℕ, suc, zero, ◌+◌, ◌-◌, ◌<◌, ◌≤◌, List, ◌++◌, [], ◌∷◌, length, get_or, map, take, refl, sym, ap, ◌∙◌, subst, arith, Bool, true, false}
-use Rattle.std.specs.Prelude.{Option, None, Some, is_some, ℤ, pos, neg_ℤ, nat_abs, Contains}
-use Rattle.std.proofs.lemmas.Bool.{cases_lt, cases_eq}
+use Rattle.std.proofs.Common.{◌≡◌, inl, inr, ℕ, suc, zero, ◌+◌, ◌<◌, ◌≤◌, List, ◌++◌, [], ◌∷◌, length, get_or, take, refl, sym, ap, ◌∙◌, subst, arith, true}
+use Rattle.std.specs.Prelude.{Option, None, Some, Result, Ok, Err, IfOk, MatchOption, ℤ, pos, neg_ℤ, Contains}
+use Rattle.std.proofs.lemmas.Bool.{cases_lt}
 use Rattle.std.proofs.lemmas.List.{get_or_default, get_or-take, length-take-le}
 use lib.IntN.{neg_ℤ-neg_ℤ}
 use Rattle.l2_cnf.specs.Trail.{AreOver}
-use Rattle.l2_cnf.specs.Logic.{Satisfies, HasTrue, Follows, IsAbsorbed, Settles, Propagates, assumed, unit, Conflicts, Negation}
-use Rattle.l2_cnf.proofs.Laws.{same_or_not, more_conflicts}
-use Rattle.l2_watch.specs.Past.{IsReason}
-use Rattle.l2_watch.specs.Watch.{IsClosed, Refutes}
+use Rattle.l2_cnf.specs.Logic.{Follows, IsAbsorbed, Settles, Propagates, assumed, unit, Conflicts, Negation}
+use Rattle.l2_cnf.proofs.Laws.{same_or_not}
 use Rattle.l2_watch.specs.Visit.{AreFalse}
 use Rattle.l2_watch.specs.Board.{Board, IsBoard, start_of, decision_of, HasCause}
 use Rattle.l2_watch.proofs.Outcomes.{not_settled}
 use Rattle.l2_watch.proofs.Boards.{part_consistent}
-use Rattle.l2_cdcl.specs.Search.{Search, AreAssumed, IsReady, IsWhole, IsTurn}
+use Rattle.l2_cdcl.specs.Search.{Search, AreAssumed, IsWhole, IsTurn}
 use Rattle.l2_cdcl.specs.declared.engine.Turn.{Turn}
-use Rattle.l2_cdcl.specs.declared.engine.Turn.TheVariants.{Learnt, Decided, Whole, Refuted}
-use Rattle.l2_cdcl.specs.Choice.{HasFree}
+use Rattle.l2_cdcl.specs.declared.engine.Turn.TheVariants.{Learnt, Decided, Whole, Closed, Refuted}
+use Rattle.l2_cdcl.specs.Level.{IsRootConflict}
 use Rattle.l2_cdcl.specs.Analysis.{IsFalseBefore}
 
 -- what has a cause is reached from what was decided, if what stands before it is
@@ -53,8 +51,8 @@ pub conflict_reached : (b : Board) (given : ℤ → Type 0) (r : ℕ) → IsBoar
 conflict_reached b given r is decided h false_ones = (get_or b.clauses r [], (r, h, get_or_default b.clauses r _ _ h), (λ m c. reached_all b given is decided (neg_ℤ m) (false_ones m c)))
 
 -- a conflict where nothing was decided
-pub root_follows : (b : Board) (r : ℕ) → IsBoard b → b.levels ≡ [] → r < length b.clauses → AreFalse b.past.literals (get_or b.clauses r []) → Follows b.clauses []
-root_follows b r is none h false_ones = conflict_reached b (Negation []) r is (λ j i. absurd (omega (arith, i, ap length none))) h false_ones
+pub root_follows : (b : Board) (r : ℕ) → IsBoard b → IsRootConflict b r → Follows b.clauses []
+root_follows b r is root = conflict_reached b (Negation []) r is (λ j i. absurd (omega (arith, i, ap length root.levels))) root.within root.false_ones
 
 part_has : (list : List ℤ) (n j : ℕ) (l : ℤ) → j < n → n ≤ length list → get_or list j (pos 0) ≡ l → Contains (take n list) l
 part_has list n j l h k e =
@@ -117,14 +115,11 @@ whole_met b assumptions is are most l (j, h, e) =
 pub unsettled_whole : (b : Board) (assumptions : List ℤ) → IsBoard b → IsWhole assumptions b → ¬ Settles b.clauses assumptions
 unsettled_whole b assumptions is whole = not_settled b.clauses b.past.literals assumptions whole.closed is.consistent whole.met
 
--- no conflict, or some
-pub none_is : (o : Option ℕ) → is_some o ≡ false → o ≡ None
-none_is None e = refl
-none_is (Some r) e = absurd (let t : true ≡ false = e in cc)
-
-pub some_is : (o : Option ℕ) → is_some o ≡ true → (r : ℕ) × (o ≡ Some r)
-some_is None e = absurd (let t : false ≡ true = e in cc)
-some_is (Some r) e = (r, refl)
+-- how a start ends
+pub started : {E : Type 0} (r : Result (Option ℕ) E) (Ready : Type 0) (Conflict : ℕ → Type 0) → (r ≡ Ok None → Ready) → ((n : ℕ) → r ≡ Ok (Some n) → Conflict n) → IfOk r (λ o. MatchOption o Ready Conflict)
+started (Ok None) Ready Conflict none some = none refl
+started (Ok (Some n)) Ready Conflict none some = some n refl
+started (Err e) Ready Conflict none some = tt
 
 -- a turn seen from before propagation
 pub turn_before : (assumptions : List ℤ) (old mid new : Search) (t : Turn) → mid.learnt ≡ old.learnt → mid.board.clauses ≡ old.board.clauses → mid.board.variables ≡ old.board.variables → mid.board.levels ≡ old.board.levels → length old.board.past.literals ≤ length mid.board.past.literals → IsTurn assumptions mid new t → IsTurn assumptions old new t
@@ -138,7 +133,8 @@ turn_before assumptions old mid new Decided e f g h k (same, forward) = (
   ],
 )
 turn_before assumptions old mid new Whole e f g h k (same, whole) = (same ∙ e, whole)
-turn_before assumptions old mid new (Refuted n) e f g h k (same, most, settled) = (same ∙ e, most, settled)
+turn_before assumptions old mid new (Closed r) e f g h k (same, root) = (same ∙ e, root)
+turn_before assumptions old mid new (Refuted n) e f g h k (same, some, most, settled) = (same ∙ e, some, most, settled)
 
 -- the assumptions that opened levels, after the way back
 pub assumed_back : (assumptions : List ℤ) (levels : List (ℕ × ℤ)) (level : ℕ) → level ≤ length levels → AreAssumed assumptions levels → AreAssumed assumptions (take level levels)

@@ -1,18 +1,16 @@
 -- The loop of the search: what it keeps, and that it ends.
-use Rattle.std.proofs.Common.{◌≡◌, ◌≢◌, ◌⊎◌, inl, inr, ℕ, suc, zero, ◌+◌, ◌-◌, ◌*◌, ◌^◌, ◌<◌, ◌≤◌, List, ◌++◌, [], ◌∷◌, length, get_or, map, take, refl, sym, ap, ◌∙◌, subst, arith, Bool, true, false, eqb, append_assoc}
-use Rattle.std.specs.Prelude.{ℤ, pos, neg_ℤ, nat_abs, Contains}
+use Rattle.std.proofs.Common.{◌≡◌, ◌⊎◌, inl, inr, ℕ, ◌+◌, ◌-◌, ◌*◌, ◌^◌, ◌<◌, ◌≤◌, List, ◌++◌, [], ◌∷◌, length, refl, sym, ap, ◌∙◌, subst, arith, append_assoc}
+use Rattle.std.specs.Prelude.{ℤ, Contains}
 use Rattle.std.specs.List.{IsDistinct}
-use Rattle.std.proofs.lemmas.Bool.{cases_lt, cases_eq}
+use Rattle.std.proofs.lemmas.Bool.{cases_lt}
 use Rattle.std.proofs.lemmas.List.{length_push, length-append, append-nil}
-use Rattle.std.proofs.lemmas.List.Elements.{Contains-append_left, Contains-append_right, Contains-append_cases, Contains-push, Contains-push_cases}
+use Rattle.std.proofs.lemmas.List.Elements.{Contains-append_left, Contains-append_right, Contains-push_cases}
 use Rattle.l2_cnf.specs.Trail.{AreOver}
-use Rattle.l2_cnf.specs.Logic.{Satisfies, Follows, IsAbsorbed, Settles, Propagates, assumed, Conflicts, NegationBut, Negation}
+use Rattle.l2_cnf.specs.Logic.{Follows, IsAbsorbed, Settles, assumed, NegationBut, Negation}
 use Rattle.l2_cnf.proofs.Laws.{more, more_conflicts}
 use Rattle.l2_cnf.proofs.Growth.{IsAbsorbed-empty}
-use Rattle.l2_watch.specs.Board.{Board, IsBoard}
 use Rattle.l2_cdcl.specs.Learning.{MayBeLearnt, AreLearnt}
-use Rattle.l2_cdcl.specs.Numbers.{number_of}
-use Rattle.l2_cdcl.specs.Search.{Search, IsTurn, IsForward}
+use Rattle.l2_cdcl.specs.Search.{Search, IsTurn}
 use Rattle.l2_cdcl.specs.Searched.{IsSearch, IsSearched}
 use Rattle.l2_cdcl.specs.declared.engine.Turn.{Turn}
 use Rattle.l2_cdcl.specs.declared.engine.Turn.TheVariants.{Learnt, Decided}

@@ -1,5 +1,5 @@
 -- Marks by stamps.
-use Rattle.std.proofs.Common.{◌≡◌, ◌≢◌, ◌⊎◌, inl, inr, ℕ, suc, zero, ◌+◌, ◌<◌, ◌≤◌, List, length, get_or, set, map, refl, sym, ap, ◌∙◌, subst, arith, Bool, true, false, eqb, rules}
+use Rattle.std.proofs.Common.{◌≡◌, inl, inr, ℕ, ◌<◌, List, length, get_or, set, map, sym, ap, ◌∙◌, arith, true, false, eqb}
 use Rattle.std.proofs.lemmas.Bool.{cases_lt}
 use Rattle.std.proofs.lemmas.Bool.Decides.{nat_tests}
 use Rattle.std.proofs.lemmas.List.{map-set, get_or-map, get_or_past, length-map}

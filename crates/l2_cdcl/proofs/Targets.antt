@@ -1,23 +1,21 @@
 -- Where a clause that is learnt is asserting.
-use Rattle.std.proofs.Common.{◌≡◌, ◌≢◌, ◌⊎◌, inl, inr, ℕ, suc, zero, ◌+◌, ◌-◌, ◌<◌, ◌≤◌, List, ◌++◌, [], ◌∷◌, length, get_or, take, refl, sym, ap, ◌∙◌, subst, arith, Bool, true, false}
-use Rattle.std.specs.Prelude.{ℤ, pos, nat_abs, neg_ℤ, Contains}
-use Rattle.std.proofs.lemmas.Bool.{cases_lt, cases_eq}
-use Rattle.std.proofs.lemmas.List.{get_or_default, get_or-take, length-take-le, take-take, length_push, append-nil}
+use Rattle.std.proofs.Common.{◌≡◌, ◌≢◌, inl, inr, ℕ, ◌+◌, ◌<◌, ◌≤◌, List, ◌++◌, [], ◌∷◌, length, get_or, take, refl, sym, ap, ◌∙◌, subst, arith, true}
+use Rattle.std.specs.Prelude.{ℤ, pos, neg_ℤ, Contains}
+use Rattle.std.proofs.lemmas.Bool.{cases_lt}
+use Rattle.std.proofs.lemmas.List.{get_or_default, get_or-take, length-take-le, take-take}
 use Rattle.std.proofs.lemmas.List.Elements.{Contains-append_left, Contains-push, Contains-push_cases}
 use lib.IntN.{neg_ℤ-neg_ℤ}
-use Rattle.l2_cnf.proofs.Laws.{nat_abs-neg_ℤ, one_in}
-use Rattle.l2_cnf.specs.Trail.{AreApart, AreOver}
-use Rattle.l2_cnf.specs.Logic.{Propagates, assumed, unit, Conflicts, Follows, IsAbsorbed}
-use Rattle.l2_watch.specs.Past.{IsReason}
-use Rattle.l2_watch.specs.Watch.{IsClosed, Refutes}
-use Rattle.l2_watch.specs.Board.{Board, IsBoard, IsLearnt, start_of, decision_of, HasCause, AreLevels}
+use Rattle.l2_cnf.proofs.Laws.{nat_abs-neg_ℤ}
+use Rattle.l2_cnf.specs.Trail.{AreOver}
+use Rattle.l2_cnf.specs.Logic.{Follows, IsAbsorbed}
+use Rattle.l2_watch.specs.Board.{Board, IsBoard, IsLearnt, start_of}
 use Rattle.l2_watch.proofs.Closed.{Refutes-follows, not_absorbed}
 use Rattle.l2_watch.proofs.Boards.{start_part}
 use Rattle.l2_cdcl.specs.Analysis.{IsFalseBefore, IsPoint}
 use Rattle.l2_cdcl.specs.Level.{IsPresent}
 use Rattle.l2_cdcl.specs.Target.{IsLast, IsTarget}
 use Rattle.l2_cdcl.proofs.Reached.{reached_root}
-use Rattle.l2_cdcl.proofs.Analyses.{Refutes-more, same_place, start_within, cause_some, cause_zero}
+use Rattle.l2_cdcl.proofs.Analyses.{same_place, start_within}
 
 pub later_false : (trail : List ℤ) (n m : ℕ) (l : ℤ) → n ≤ m → IsFalseBefore trail n l → IsFalseBefore trail m l
 later_false trail n m l h (j, b, e) = (j, omega (arith, h, b), e)

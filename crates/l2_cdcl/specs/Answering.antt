@@ -1,5 +1,5 @@
 -- What an answer says.
-use Rattle.std.specs.Prelude.{◌≡◌, ◌⊎◌, ℕ, Bool, true, not, if◌then◌else◌, Option, None, Some, ℤ, nat_abs, List, [], ◌++◌, Contains}
+use Rattle.std.specs.Prelude.{◌≡◌, ℕ, Bool, true, not, if◌then◌else◌, Option, None, Some, ℤ, nat_abs, List, [], ◌++◌, Contains}
 use Rattle.l2_cnf.specs.Assignment.{value_of, MakesTrue, IsSatisfied}
 use Rattle.l2_cnf.specs.Lit.{positive}
 use Rattle.l2_cnf.specs.Logic.{Satisfies, Settles, literal_true}
@@ -21,6 +21,11 @@ pub record IsCore (core assumptions : List ℤ) (added learnt : List (List ℤ))
 abbrev pub IsAnswer : List ℤ → List (List ℤ) → List (List ℤ) → List (List ℤ) → Answer → Type 0
 IsAnswer assumptions added old new (Sat values) = (IsModel values added assumptions) × (¬ Settles (added ++ old) assumptions)
 IsAnswer assumptions added old new (Unsat core) = IsCore core assumptions added new
+
+-- after Unsat without assumptions the empty clause was learnt
+abbrev pub IsClosed : List ℤ → List (List ℤ) → Answer → Type 0
+IsClosed assumptions learnt (Sat values) = Unit {0}
+IsClosed assumptions learnt (Unsat core) = assumptions ≡ [] → Contains learnt []
 
 -- the truth of a literal of this sign, by its variable's value
 abbrev pub truth_by : Bool → Option Bool → Option Bool

@@ -1,5 +1,5 @@
 -- The clauses added and those learnt, and what may be learnt.
-use Rattle.std.specs.Prelude.{◌≡◌, ◌⊎◌, ℕ, suc, Bool, cond, eqb, ℤ, List, [], ◌∷◌, ◌++◌, map, slice_index_or, Contains}
+use Rattle.std.specs.Prelude.{◌≡◌, ◌⊎◌, ℕ, suc, cond, eqb, ℤ, List, [], ◌∷◌, ◌++◌, map, slice_index_or, Contains}
 use Rattle.std.specs.List.{list_any}
 use Rattle.l2_cnf.specs.Logic.{Follows, IsAbsorbed, Settles}
 

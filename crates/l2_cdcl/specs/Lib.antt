@@ -1,7 +1,8 @@
 pub mod Numbers
 pub mod Analysis
-pub mod Choice
 pub mod Level
+pub mod Log
+pub mod Chain
 pub mod Target
 pub mod Learning
 pub mod Search

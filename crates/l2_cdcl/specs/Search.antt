@@ -1,28 +1,35 @@
 -- What a search holds and what its turns do.
-use Rattle.std.specs.Prelude.{◌≡◌, ◌≢◌, ◌⊎◌, ℕ, suc, ◌+◌, ◌*◌, ◌<◌, ◌≤◌, Bool, true, ℤ, pos, neg_ℤ, nat_abs, List, [], ◌∷◌, ◌++◌, length, take, Contains, slice_index_or}
+use Rattle.std.specs.Prelude.{◌≡◌, ◌⊎◌, ℕ, ◌+◌, ◌<◌, ◌≤◌, Bool, true, ℤ, pos, List, [], ◌∷◌, ◌++◌, length, take, Contains, slice_index_or}
 use Rattle.l2_cnf.specs.Logic.{Satisfies, Settles, Follows, IsAbsorbed}
 use Rattle.l2_cnf.specs.Trail.{AreOver}
+use Rattle.l2_cnf.specs.Steps.{Step}
 use Rattle.l2_watch.specs.Board.{Board, decision_of}
 use Rattle.l2_watch.specs.Watch.{IsClosed}
-use Rattle.l2_cdcl.specs.Learning.{learnt_of, added_of, MayBeLearnt}
-use Rattle.l2_cdcl.specs.Choice.{HasFree}
+use Rattle.l2_cdcl.specs.Learning.{learnt_of, added_of}
+use Rattle.l2_order.specs.Choice.{HasFree}
+use Rattle.l2_cdcl.specs.Level.{IsRootConflict}
+use Rattle.l2_cdcl.specs.Log.{Logged, IsKeptLog}
 use Rattle.l2_cdcl.specs.declared.engine.Turn.{Turn}
-use Rattle.l2_cdcl.specs.declared.engine.Turn.TheVariants.{Learnt, Decided, Whole, Refuted}
+use Rattle.l2_cdcl.specs.declared.engine.Turn.TheVariants.{Learnt, Decided, Whole, Closed, Refuted}
 
--- the clauses added, those learnt in order, the board with both, and for how many variables, 0 among them, there are marks
+-- the clauses added, those learnt in order, the board with both, for how many variables, 0 among them, there are marks, and
+-- the steps of the log, if one is kept
 pub record Search : Type 0 where
   pub added : List (List ℤ)
   pub learnt : List (List ℤ)
   pub board : Board
   pub marked : ℕ
+  pub logged : Bool
+  pub steps : List Step
 
 -- what a search keeps
-pub record IsEngine (at : List ℕ) (board : Board) (marks : List Bool) (refuted : Bool) : Type 0 where
+pub record IsEngine (at : List ℕ) (board : Board) (marks : List Bool) (refuted : Bool) (log : Logged) : Type 0 where
   pub within : (i : ℕ) → Contains at i → i < length board.clauses
   pub implied : (v : ℕ → Bool) → Satisfies v (added_of at board.clauses) → Satisfies v board.clauses
   pub found : refuted ≡ true → Contains (learnt_of at board.clauses) []
   pub told : Contains (learnt_of at board.clauses) [] → refuted ≡ true
   pub room : board.ready ≡ true → board.variables < length marks
+  pub logged : log.kept ≡ true → IsKeptLog (added_of at board.clauses) (learnt_of at board.clauses) board.clauses log.steps
 
 -- each level below the number of the assumptions was opened by an assumption
 abbrev pub AreAssumed : List ℤ → List (ℕ × ℤ) → Type 0
@@ -50,4 +57,5 @@ abbrev pub IsTurn : List ℤ → Search → Search → Turn → Type 0
 IsTurn assumptions old new Learnt = (clause : List ℤ) × (new.learnt ≡ old.learnt ++ clause ∷ []) × (Follows old.board.clauses clause) × (¬ IsAbsorbed old.board.clauses clause) × (AreOver old.board.variables clause) × (¬ Settles old.board.clauses assumptions)
 IsTurn assumptions old new Decided = (new.learnt ≡ old.learnt) × IsForward assumptions old.board new.board
 IsTurn assumptions old new Whole = (new.learnt ≡ old.learnt) × IsWhole assumptions new.board
-IsTurn assumptions old new (Refuted n) = (new.learnt ≡ old.learnt) × (n ≤ length assumptions) × Settles new.board.clauses (take n assumptions)
+IsTurn assumptions old new (Closed r) = (new.learnt ≡ old.learnt) × IsRootConflict new.board r
+IsTurn assumptions old new (Refuted n) = (new.learnt ≡ old.learnt) × (1 ≤ n) × (n ≤ length assumptions) × Settles new.board.clauses (take n assumptions)

@@ -1,14 +1,16 @@
 -- What a search found.
-use Rattle.std.specs.Prelude.{◌≡◌, ◌≢◌, ◌⊎◌, ℕ, suc, ◌+◌, ◌*◌, ◌<◌, ◌≤◌, Bool, true, eqb, ℤ, pos, neg_ℤ, nat_abs, List, [], ◌∷◌, ◌++◌, length, take, map, Contains, slice_index_or}
+use Rattle.std.specs.Prelude.{◌≡◌, ◌≢◌, ℕ, ◌+◌, ◌*◌, ◌≤◌, Bool, true, eqb, ℤ, List, [], ◌++◌, length, take, map, Contains}
 use Rattle.std.specs.List.{IsDistinct}
 use Rattle.l2_cnf.specs.Logic.{Satisfies, Settles}
 use Rattle.l2_cnf.specs.Trail.{AreOver}
-use Rattle.l2_watch.specs.Board.{Board, IsBoard}
+use Rattle.l2_watch.specs.Board.{IsBoard}
 use Rattle.l2_cdcl.specs.Learning.{AreLearnt}
 use Rattle.l2_cdcl.specs.Numbers.{number_of}
+use Rattle.l2_cdcl.specs.Level.{IsRootConflict}
+use Rattle.l2_cdcl.specs.Log.{IsLog}
 use Rattle.l2_cdcl.specs.Search.{Search, IsWhole}
 use Rattle.l2_cdcl.specs.declared.engine.Verdict.{Verdict}
-use Rattle.l2_cdcl.specs.declared.engine.Verdict.TheVariants.{Whole, Refuted}
+use Rattle.l2_cdcl.specs.declared.engine.Verdict.TheVariants.{Whole, Closed, Refuted}
 
 -- what holds of every search
 pub record IsSearch (s : Search) : Type 0 where
@@ -16,6 +18,7 @@ pub record IsSearch (s : Search) : Type 0 where
   pub all : (clause : List ℤ) → Contains s.board.clauses clause → Contains (s.added ++ s.learnt) clause
   pub implied : (v : ℕ → Bool) → Satisfies v s.added → Satisfies v s.board.clauses
   pub kept : IsBoard s.board
+  pub log : s.logged ≡ true → IsLog s.added s.learnt s.steps
 
 -- A search from one state to another: what was learnt in it, of which nothing is absorbed, and nothing where the assumptions
 -- were settled before.
@@ -30,4 +33,5 @@ pub record IsSearched (assumptions : List ℤ) (old new : Search) : Type 0 where
 
 abbrev pub IsVerdict : List ℤ → Search → Verdict → Type 0
 IsVerdict assumptions s Whole = IsWhole assumptions s.board
-IsVerdict assumptions s (Refuted n) = (n ≤ length assumptions) × Settles s.board.clauses (take n assumptions)
+IsVerdict assumptions s (Closed r) = IsRootConflict s.board r
+IsVerdict assumptions s (Refuted n) = (1 ≤ n) × (n ≤ length assumptions) × Settles s.board.clauses (take n assumptions)

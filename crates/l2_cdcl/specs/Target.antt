@@ -1,5 +1,5 @@
 -- The level to which the search goes back, and the literal that is watched beside the one that is asserted there.
-use Rattle.std.specs.Prelude.{◌≡◌, ◌≢◌, ◌⊎◌, ℕ, ◌+◌, ◌<◌, ◌≤◌, ℤ, pos, neg_ℤ, List, [], length, take, Contains, slice_index_or}
+use Rattle.std.specs.Prelude.{◌≡◌, ◌⊎◌, ℕ, ◌+◌, ◌<◌, ℤ, pos, neg_ℤ, List, [], length, take, Contains, slice_index_or}
 use Rattle.l2_watch.specs.Board.{start_of}
 use Rattle.l2_cdcl.specs.Analysis.{IsFalseBefore}
 

@@ -1,18 +1,21 @@
-ghost use Rattle.std.specs.Prelude.{◌≡◌, ◌≢◌, ◌⊎◌, ◌≤◌, ◌<◌, ◌+◌, ◌-◌, [], ℕ, ℤ, pos, neg_ℤ, nat_abs, Bool, true, List, length, Contains, slice_index_or, OnOk, IfOk, MatchOption};
+ghost use Rattle.std.specs.Prelude.{◌≡◌, ◌≢◌, ◌⊎◌, ◌≤◌, ◌<◌, ◌+◌, ◌-◌, [], ℕ, ℤ, pos, neg_ℤ, nat_abs, Bool, true, List, length, reverse, Contains, slice_index_or, OnOk, IfOk, MatchOption};
 ghost use Rattle.std.specs.Bool.{OnTrue};
 ghost use Rattle.l2_cnf.specs.Trail.{AreOver};
 ghost use Rattle.l2_watch.specs.Visit.{AreFalse};
 ghost use Rattle.l2_watch.specs.Past.{IsReason};
 ghost use Rattle.l2_watch.specs.Board.{start_of, AreCaused};
-ghost use Rattle.l2_cdcl.specs.Analysis.{IsMarked, AreUnmarked, IsFalseBefore, IsOpen, IsAside, IsMore, IsTraced, IsPoint};
-ghost use Rattle.l2_cdcl.specs.Level.{IsPresent};
+ghost use Rattle.l2_cdcl.specs.Analysis.{IsMarked, AreUnmarked, IsFalseBefore, IsOpen, IsAside, IsMore, IsTraced, IsLeft, IsPoint};
+ghost use Rattle.l2_cdcl.specs.Chain.{Chain, IsLater};
+ghost use Rattle.l2_cdcl.specs.Level.{IsPresent, IsRootConflict};
+ghost use Rattle.l2_cnf.specs.Steps.{Leads};
 
+use crate::hints::Hints;
 use crate::marks::Marks;
-use crate::order::Order;
 use l2_cnf::Lit;
+use l2_order::Order;
 use l2_watch::Watch;
 use smallvec::SmallVec;
-use std::alloc::AllocError;
+use std::alloc::{AllocError, Global};
 
 /// The literals that are put aside for the clause that is learnt.
 pub type Aside = SmallVec<Lit, 16>;
@@ -43,6 +46,7 @@ fn mark_one(
     ensures more { OnOk result (IsMore marks.old marks.new aside.old.items aside.new.items) }
     ensures put { OnOk result (IsAside watch.now.past.literals at.low at.start marks.new aside.new.items) }
     ensures open { OnOk result (literal ≢ but → IsOpen watch.now.past.literals at.low at.start (length watch.now.past.literals) marks.new aside.new.items literal) }
+    ensures from { OnOk result ((v : ℕ) → IsMarked marks.new v → IsMarked marks.old v ⊎ (nat_abs literal ≡ v)) }
 {
     if literal == but {
         return Ok(0);
@@ -86,6 +90,7 @@ fn mark_others(
     ensures more { OnOk result (IsMore marks.old marks.new aside.old.items aside.new.items) }
     ensures put { OnOk result (IsAside watch.now.past.literals at.low at.start marks.new aside.new.items) }
     ensures open { OnOk result ((m : ℤ) → Contains clause.now m → m ≢ but → IsOpen watch.now.past.literals at.low at.start (length watch.now.past.literals) marks.new aside.new.items m) }
+    ensures from { OnOk result ((v : ℕ) → IsMarked marks.new v → IsMarked marks.old v ⊎ ((m : ℤ) × (Contains clause.now m) × (nat_abs m ≡ v))) }
 {
     let mut count = 0u64;
     for literal in clause {
@@ -98,7 +103,7 @@ fn mark_others(
 fn last_marked(watch: &Watch, marks: &Marks, start: usize, end: usize) -> Option<usize>
     requires within { end ≤ length watch.now.past.literals }
     requires room { watch.now.variables < length marks.now }
-    ensures { MatchOption result (AreUnmarked watch.now.past.literals marks.now start end) (λ k. (start ≤ k) × (k < end) × AreUnmarked watch.now.past.literals marks.now (k + 1) end) }
+    ensures { MatchOption result (AreUnmarked watch.now.past.literals marks.now start end) (λ k. (start ≤ k) × (k < end) × (AreUnmarked watch.now.past.literals marks.now (k + 1) end) × IsMarked marks.now (nat_abs (slice_index_or watch.now.past.literals k (pos 0)))) }
 {
     watch.facts();
     let mut k = end;
@@ -126,6 +131,7 @@ fn last_open(watch: &Watch, marks: &Marks, start: usize, end: usize) -> usize
     ensures first { start ≤ result }
     ensures last { result < end }
     ensures none { AreUnmarked watch.now.past.literals marks.now (result + 1) end }
+    ensures here { IsMarked marks.now (nat_abs (slice_index_or watch.now.past.literals result (pos 0))) }
 {
     match last_marked(watch, marks, start, end) {
         Some(k) => k,
@@ -141,16 +147,22 @@ fn begin(
     at: Bounds,
     conflict: u64,
     aside: &mut Aside,
+    hints: &mut Hints,
 ) -> Result<Traced, AllocError>
     requires level { IsPresent watch.now at.low at.start }
     requires conflict { conflict < length watch.now.clauses }
     requires false_ones { AreFalse watch.now.past.literals (slice_index_or watch.now.clauses conflict []) }
     requires room { watch.now.variables < length marks.old }
     requires aside { aside.old.items ≡ [] }
+    requires hints { hints.old.numbers ≡ [] }
     ensures len { length marks.new ≡ length marks.old }
+    ensures kept { hints.new.kept ≡ hints.old.kept }
+    ensures chain { IfOk result (λ t. hints.old.kept ≡ true → Chain watch.now.clauses (IsOpen watch.now.past.literals at.low at.start (t.place + 1) marks.new aside.new.items) (IsLater watch.now.past.literals t.place) (reverse hints.new.numbers)) }
     ensures traced { IfOk result (λ t. IsTraced watch.now.clauses watch.now.past.literals at.low at.start t.place marks.new aside.new.items) }
 {
     watch.facts();
+    let _count = watch.count();
+    hints.note(conflict + 1)?;
     marks.clear();
     let but = watch.literal(watch.len() - 1);
     let open = mark_others(watch, marks, order, at, watch.clause(conflict), but, aside)?;
@@ -166,20 +178,27 @@ fn resolve(
     at: Bounds,
     traced: Traced,
     aside: &mut Aside,
+    hints: &mut Hints,
 ) -> Result<Option<Traced>, AllocError>
     requires level { IsPresent watch.now at.low at.start }
     requires traced { IsTraced watch.now.clauses watch.now.past.literals at.low at.start traced.place marks.old aside.old.items }
+    requires chain { hints.old.kept ≡ true → Chain watch.now.clauses (IsOpen watch.now.past.literals at.low at.start (traced.place + 1) marks.old aside.old.items) (IsLater watch.now.past.literals traced.place) (reverse hints.old.numbers) }
     requires room { watch.now.variables < length marks.old }
     ensures len { length marks.new ≡ length marks.old }
+    ensures kept { hints.new.kept ≡ hints.old.kept }
     ensures next { IfOk result (λ o. MatchOption o
         (IsPoint watch.now.clauses watch.now.past.literals at.low at.start traced.place aside.new.items)
         (λ t. (t.place < traced.place) × IsTraced watch.now.clauses watch.now.past.literals at.low at.start t.place marks.new aside.new.items)) }
+    ensures chain { IfOk result (λ o. hints.old.kept ≡ true → MatchOption o
+        (Chain watch.now.clauses (IsLeft watch.now.past.literals at.low traced.place aside.new.items) (IsLater watch.now.past.literals traced.place) (reverse hints.new.numbers))
+        (λ t. Chain watch.now.clauses (IsOpen watch.now.past.literals at.low at.start (t.place + 1) marks.new aside.new.items) (IsLater watch.now.past.literals t.place) (reverse hints.new.numbers))) }
 {
     watch.facts();
     let reason = watch.reason(traced.place);
     if reason == 0 {
         return Ok(None);
     }
+    hints.note(reason)?;
     let but = watch.literal(traced.place);
     let more = mark_others(
         watch,
@@ -211,7 +230,7 @@ fn is_point(watch: &Watch, marks: &Marks, at: Bounds, traced: Traced) -> bool
 }
 
 /// Traces a conflict back to the first point of the present level through which it goes, and puts the literals of lower levels
-/// aside. It answers the place of that point.
+/// aside, and the clauses by which it went among the hints. It answers the place of that point.
 pub fn analyse(
     watch: &Watch,
     marks: &mut Marks,
@@ -219,23 +238,50 @@ pub fn analyse(
     at: Bounds,
     conflict: u64,
     aside: &mut Aside,
+    hints: &mut Hints,
 ) -> Result<usize, AllocError>
     requires level { IsPresent watch.now at.low at.start }
     requires conflict { conflict < length watch.now.clauses }
     requires false_ones { AreFalse watch.now.past.literals (slice_index_or watch.now.clauses conflict []) }
     requires room { watch.now.variables < length marks.old }
     requires aside { aside.old.items ≡ [] }
+    requires hints { hints.old.numbers ≡ [] }
     ensures len { length marks.new ≡ length marks.old }
+    ensures kept { hints.new.kept ≡ hints.old.kept }
+    ensures chain { IfOk result (λ k. hints.old.kept ≡ true → Chain watch.now.clauses (IsLeft watch.now.past.literals at.low k aside.new.items) (IsLater watch.now.past.literals k) (reverse hints.new.numbers)) }
     ensures point { IfOk result (λ k. IsPoint watch.now.clauses watch.now.past.literals at.low at.start k aside.new.items) }
 {
-    let mut traced = begin(watch, marks, order, at, conflict, aside)?;
+    let mut traced = begin(watch, marks, order, at, conflict, aside, hints)?;
     loop {
         if is_point(watch, marks, at, traced) {
             return Ok(traced.place);
         }
-        match resolve(watch, marks, order, at, traced, aside)? {
+        match resolve(watch, marks, order, at, traced, aside, hints)? {
             Some(next) => traced = next,
             None => return Ok(traced.place),
         }
     }
+}
+
+/// The hints of the empty clause: what made each literal true, in order, and then the clause whose literals are all false.
+pub fn root_hints(
+    watch: &Watch,
+    kept: bool,
+    conflict: u64,
+    alloc: Global,
+) -> Result<Vec<u64>, AllocError>
+    requires { IsRootConflict watch.now conflict }
+    ensures { IfOk result (λ h. kept ≡ true → Leads watch.now.clauses [] h.items) }
+{
+    let mut hints = Vec::new(alloc);
+    if !kept {
+        return Ok(hints);
+    }
+    watch.facts();
+    let _count = watch.count();
+    for i in 0..watch.len() {
+        hints.push(watch.reason(i))?;
+    }
+    hints.push(conflict + 1)?;
+    Ok(hints)
 }

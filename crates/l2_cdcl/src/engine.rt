@@ -1,20 +1,26 @@
-ghost use Rattle.std.specs.Prelude.{◌≡◌, ◌≢◌, ◌⊎◌, ◌≤◌, ◌<◌, ◌^◌, ◌+◌, ◌-◌, ◌++◌, ◌∷◌, [], ℕ, ℤ, pos, neg_ℤ, nat_abs, Bool, true, false, List, length, take, Contains, slice_index_or, OnOk, OnErr, IfOk, IsTrue, ◌↔◌, Ok, Some, None};
+ghost use Rattle.std.specs.Prelude.{◌≡◌, ◌≢◌, ◌⊎◌, ◌≤◌, ◌<◌, ◌^◌, ◌+◌, ◌-◌, ◌++◌, ◌∷◌, [], ℕ, ℤ, pos, neg_ℤ, nat_abs, Bool, true, false, List, length, take, Contains, slice_index_or, OnOk, OnErr, IfOk, IsTrue, ◌↔◌, Ok, Some, None, MatchOption};
 ghost use Rattle.l2_cnf.specs.Logic.{Settles, Follows};
+ghost use Rattle.l2_cnf.specs.Steps.{IsStep};
+ghost use Rattle.l2_cnf.specs.Lines.{step_of};
 ghost use Rattle.l2_cnf.specs.Trail.{AreOver};
 ghost use Rattle.l2_cnf.specs.Assignment.{MakesTrue};
 ghost use Rattle.l2_watch.specs.Visit.{AreFalse};
 ghost use Rattle.l2_watch.specs.Board.{IsLearnt, start_of};
 ghost use Rattle.l2_cdcl.specs.Learning.{MayBeLearnt};
+ghost use Rattle.l2_cdcl.specs.Level.{IsRootConflict};
+ghost use Rattle.l2_cdcl.specs.Log.{greatest_of};
 ghost use Rattle.l2_cdcl.specs.Search.{Search, AreAssumed, IsTurn, IsReady};
 ghost use Rattle.l2_cdcl.specs.Searched.{IsSearch, IsSearched, IsVerdict};
 
-use crate::analysis::{Aside, Bounds, analyse};
+use crate::analysis::{Aside, Bounds, analyse, root_hints};
 use crate::answer::Core;
+use crate::hints::Hints;
+use crate::log::Log;
 use crate::marks::Marks;
 use crate::model::assignment_of;
-use crate::order::Order;
 use crate::target::{Target, aim};
-use l2_cnf::{Assignment, Lit};
+use l2_cnf::{Assignment, Lines, Lit};
+use l2_order::Order;
 use l2_watch::{Watch, greatest};
 use std::alloc::{AllocError, Global};
 use std::marker::Model;
@@ -28,6 +34,8 @@ pub enum Turn {
     Decided,
     /// Every variable has a value.
     Whole,
+    /// The clause at this index is false, though nothing was decided.
+    Closed(u64),
     /// So many of the assumptions can't be met together.
     Refuted(usize),
 }
@@ -41,6 +49,7 @@ pub struct Engine {
     marks: Marks,
     order: Order,
     refuted: bool,
+    log: Log,
 }
 
 impl Model for Engine {
@@ -50,15 +59,17 @@ impl Model for Engine {
 
     ghost Value = { Search };
 
-    ghost view = { λ a. record { added = added_of a.learnt_at.items a.watch.clauses; learnt = learnt_of a.learnt_at.items a.watch.clauses; board = a.watch; marked = length a.marks } };
+    ghost view = { λ a. record { added = added_of a.learnt_at.items a.watch.clauses; learnt = learnt_of a.learnt_at.items a.watch.clauses; board = a.watch; marked = length a.marks; logged = a.log.kept; steps = a.log.steps } };
 
-    ghost invariant = { λ a. IsEngine a.learnt_at.items a.watch a.marks a.refuted };
+    ghost invariant = { λ a. IsEngine a.learnt_at.items a.watch a.marks a.refuted a.log };
 }
 
 impl Engine {
-    pub fn new(alloc: Global) -> Result<Engine, AllocError>
+    pub fn new(alloc: Global, logged: bool) -> Result<Engine, AllocError>
         ensures added { IfOk result (λ e. e.added ≡ []) }
         ensures learnt { IfOk result (λ e. e.learnt ≡ []) }
+        ensures logged { IfOk result (λ e. e.logged ≡ logged) }
+        ensures steps { IfOk result (λ e. e.steps ≡ []) }
     {
         Ok(Engine {
             alloc,
@@ -67,14 +78,17 @@ impl Engine {
             marks: Marks::new(alloc, 1)?,
             order: Order::new(alloc),
             refuted: false,
+            log: Log::new(alloc, logged),
         })
     }
 
     /// Adds a clause.
     pub fn add(&mut self, clause: &[Lit]) -> Result<(), AllocError>
+        requires { self.old.logged ≡ true → self.old.learnt ≡ [] }
         ensures ok { OnOk result (self.new.added ≡ self.old.added ++ clause.now ∷ []) }
         ensures err { OnErr result (self.new.added ≡ self.old.added) }
         ensures learnt { self.new.learnt ≡ self.old.learnt }
+        ensures logged { self.new.logged ≡ self.old.logged }
     {
         self.watch.add(clause)?;
         Ok(())
@@ -118,6 +132,13 @@ impl Engine {
         self.watch.clause(self.learnt_at[i as usize])
     }
 
+    /// The log of what was learnt, if one is kept.
+    pub fn log(&self) -> &Lines
+        ensures { result.now ≡ self.now.steps }
+    {
+        self.log.lines()
+    }
+
     /// Whether the empty clause was learnt.
     pub fn is_refuted(&self) -> bool
         ensures { IsTrue result ↔ Contains self.now.learnt [] }
@@ -126,18 +147,59 @@ impl Engine {
     }
 }
 
+// Notes that the clause that comes next is learnt, and how. For want of memory all stays as it was.
+fn note(
+    learnt_at: &mut Vec<u64>,
+    log: &mut Log,
+    index: u64,
+    clause: &[Lit],
+    hints: &[u64],
+) -> Result<(), AllocError>
+    requires { index < 2 ^ 60 }
+    ensures at { OnOk result (learnt_at.new.items ≡ learnt_at.old.items ++ index ∷ []) }
+    ensures line { OnOk result (log.old.kept ≡ true → log.new.steps ≡ log.old.steps ++ step_of (index + 1) clause.now hints.now ∷ []) }
+    ensures kept { log.new.kept ≡ log.old.kept }
+    ensures same { OnErr result ((learnt_at.new.items ≡ learnt_at.old.items) × (log.new ≡ log.old)) }
+{
+    learnt_at.push(index)?;
+    if let Err(e) = log.push(index + 1, clause, hints) {
+        learnt_at.pop();
+        return Err(e);
+    }
+    Ok(())
+}
+
+// Takes back what was noted last.
+fn forget(learnt_at: &mut Vec<u64>, log: &mut Log)
+    ensures at { learnt_at.new.items ≡ take (length learnt_at.old.items - 1) learnt_at.old.items }
+    ensures line { log.old.kept ≡ true → log.new.steps ≡ take (length log.old.steps - 1) log.old.steps }
+    ensures kept { log.new.kept ≡ log.old.kept }
+{
+    learnt_at.pop();
+    log.pop();
+}
+
 impl Engine {
-    /// Learns the empty clause.
-    pub fn refute(&mut self) -> Result<(), AllocError>
-        requires { Follows self.old.board.clauses [] }
+    /// Learns the empty clause, where a clause is false though nothing was decided.
+    pub fn refute(&mut self, conflict: u64) -> Result<(), AllocError>
+        requires { IsRootConflict self.old.board conflict }
         ensures ok { OnOk result (self.new.learnt ≡ self.old.learnt ++ [] ∷ []) }
         ensures err { OnErr result (self.new.learnt ≡ self.old.learnt) }
         ensures added { self.new.added ≡ self.old.added }
+        ensures logged { self.new.logged ≡ self.old.logged }
     {
         let _ = &self.refuted;
-        self.learnt_at.push(self.watch.count())?;
+        self.watch.facts();
+        let hints = root_hints(&self.watch, self.log.is_kept(), conflict, self.alloc)?;
+        note(
+            &mut self.learnt_at,
+            &mut self.log,
+            self.watch.count(),
+            &[],
+            &hints,
+        )?;
         if let Err(e) = self.watch.add(&[]) {
-            self.learnt_at.pop();
+            forget(&mut self.learnt_at, &mut self.log);
             return Err(e);
         }
         self.refuted = true;
@@ -146,17 +208,16 @@ impl Engine {
 }
 
 impl Engine {
-    /// Makes ready for these assumptions. It answers whether the clauses can't be met.
-    pub fn begin(&mut self, assumptions: &[Lit]) -> Result<bool, AllocError>
+    /// Makes ready for these assumptions. It answers a clause that is false though nothing was decided, if it comes upon one.
+    pub fn begin(&mut self, assumptions: &[Lit]) -> Result<Option<u64>, AllocError>
         ensures clauses { self.new.board.clauses ≡ self.old.board.clauses }
         ensures added { self.new.added ≡ self.old.added }
         ensures learnt { self.new.learnt ≡ self.old.learnt }
-        ensures cases { IfOk result (λ refuted. (refuted ≡ false → IsReady assumptions.now self.new) × (refuted ≡ true → Follows self.new.board.clauses [])) }
+        ensures logged { self.new.logged ≡ self.old.logged }
+        ensures cases { IfOk result (λ o. MatchOption o (IsReady assumptions.now self.new) (λ r. IsRootConflict self.new.board r)) }
     {
         self.cover(assumptions)?;
-        let conflict = self.watch.start()?;
-        self.watch.facts();
-        Ok(conflict.is_some())
+        self.watch.start()
     }
 
     // Makes room for the variables of the clauses and the assumptions.
@@ -164,6 +225,7 @@ impl Engine {
         ensures clauses { self.new.board.clauses ≡ self.old.board.clauses }
         ensures added { self.new.added ≡ self.old.added }
         ensures learnt { self.new.learnt ≡ self.old.learnt }
+        ensures logged { self.new.logged ≡ self.old.logged }
         ensures over { OnOk result (AreOver self.new.board.variables assumptions.now) }
         ensures room { OnOk result (self.new.board.variables < self.new.marked) }
     {
@@ -185,6 +247,7 @@ impl Engine {
         ensures ready { IsReady assumptions.now self.new }
         ensures added { self.new.added ≡ self.old.added }
         ensures variables { self.new.board.variables ≡ self.old.board.variables }
+        ensures logged { self.new.logged ≡ self.old.logged }
         ensures err { OnErr result (self.new.learnt ≡ self.old.learnt) }
         ensures turn { IfOk result (λ t. IsTurn assumptions.now self.old self.new t) }
     {
@@ -202,6 +265,7 @@ impl Engine {
         ensures added { self.new.added ≡ self.old.added }
         ensures learnt { self.new.learnt ≡ self.old.learnt }
         ensures variables { self.new.board.variables ≡ self.old.board.variables }
+        ensures logged { self.new.logged ≡ self.old.logged }
         ensures turn { IfOk result (λ t. IsTurn assumptions.now self.old self.new t) }
     {
         let level = self.watch.levels();
@@ -231,17 +295,22 @@ impl Engine {
         ensures ready { IsReady assumptions.now self.new }
         ensures added { self.new.added ≡ self.old.added }
         ensures variables { self.new.board.variables ≡ self.old.board.variables }
+        ensures logged { self.new.logged ≡ self.old.logged }
         ensures err { OnErr result (self.new.learnt ≡ self.old.learnt) }
         ensures turn { IfOk result (λ t. IsTurn assumptions.now self.old self.new t) }
     {
         let level = self.watch.levels();
         self.watch.facts();
+        if level == 0 {
+            return Ok(Turn::Closed(conflict));
+        }
         if level <= assumptions.len() {
             return Ok(Turn::Refuted(level));
         }
         let mut aside = Aside::new(self.alloc);
+        let mut hints = Hints::new(self.alloc, self.log.is_kept());
         let at = Bounds {
-            low: self.watch.start_of(0),
+            low: low_of(&self.watch, self.log.is_kept()),
             start: self.watch.start_of(level - 1),
         };
         let point = analyse(
@@ -251,12 +320,14 @@ impl Engine {
             at,
             conflict,
             &mut aside,
+            &mut hints,
         )?;
+        hints.turn();
         let u = self.watch.literal(point).negated();
         let target = aim(&self.watch, at.start, aside.as_slice(), u);
         aside.push(u)?;
         let anew = self.order.decay();
-        self.learn(aside.as_slice(), u, target)?;
+        self.learn(aside.as_slice(), hints.numbers(), u, target)?;
         self.restart(anew, assumptions.len());
         Ok(Turn::Learnt)
     }
@@ -267,6 +338,7 @@ impl Engine {
         ensures added { self.new.added ≡ self.old.added }
         ensures learnt { self.new.learnt ≡ self.old.learnt }
         ensures variables { self.new.board.variables ≡ self.old.board.variables }
+        ensures logged { self.new.logged ≡ self.old.logged }
         ensures ready { self.new.board.ready ≡ true }
         ensures levels { (n : ℕ) × (n ≤ length self.old.board.levels) × (self.new.board.levels ≡ take n self.old.board.levels) }
     {
@@ -277,29 +349,52 @@ impl Engine {
     }
 
     // Goes back to the level of a clause, learns it there and makes u true.
-    fn learn(&mut self, clause: &[Lit], u: Lit, target: Target) -> Result<(), AllocError>
+    fn learn(
+        &mut self,
+        clause: &[Lit],
+        hints: &[u64],
+        u: Lit,
+        target: Target,
+    ) -> Result<(), AllocError>
         requires ready { self.old.board.ready ≡ true }
         requires level { target.level < length self.old.board.levels }
         requires learnt { IsLearnt (take (start_of self.old.board.levels target.level) self.old.board.past.literals) (take target.level self.old.board.levels) clause.now u target.second }
         requires over { AreOver self.old.board.variables clause.now }
         requires follows { Follows self.old.board.clauses clause.now }
+        requires step { self.old.logged ≡ true → IsStep self.old.board.clauses (greatest_of self.old.added) (length self.old.board.clauses + 1) clause.now hints.now }
         ensures ok { OnOk result (self.new.learnt ≡ self.old.learnt ++ clause.now ∷ []) }
         ensures err { OnErr result (self.new.learnt ≡ self.old.learnt) }
         ensures added { self.new.added ≡ self.old.added }
         ensures variables { self.new.board.variables ≡ self.old.board.variables }
+        ensures logged { self.new.logged ≡ self.old.logged }
         ensures levels { self.new.board.levels ≡ take target.level self.old.board.levels }
         ensures still { self.new.board.ready ≡ true }
     {
         release(&self.watch, &mut self.order, target.level);
         self.watch.back(target.level);
         let _ = &self.refuted;
-        self.learnt_at.push(self.watch.count())?;
+        note(
+            &mut self.learnt_at,
+            &mut self.log,
+            self.watch.count(),
+            clause,
+            hints,
+        )?;
         if let Err(e) = self.watch.learn(clause, u, target.second) {
-            self.learnt_at.pop();
+            forget(&mut self.learnt_at, &mut self.log);
             return Err(e);
         }
         Ok(())
     }
+}
+
+// Where the literals begin that need care: where a log is kept all do, so that no hint is needed for those of level 0.
+fn low_of(watch: &Watch, logged: bool) -> usize
+    requires { 0 < length watch.now.levels }
+    ensures most { result ≤ start_of watch.now.levels 0 }
+    ensures all { logged ≡ true → result ≡ 0 }
+{
+    if logged { 0 } else { watch.start_of(0) }
 }
 
 // Tells the order which literals are taken back.
@@ -316,6 +411,8 @@ fn release(watch: &Watch, order: &mut Order, level: usize)
 pub enum Verdict {
     /// Every variable has a value.
     Whole,
+    /// The clause at this index is false, though nothing was decided.
+    Closed(u64),
     /// So many of the assumptions can't be met together.
     Refuted(usize),
 }
@@ -326,6 +423,7 @@ impl Engine {
     pub fn search(&mut self, assumptions: &[Lit]) -> Result<Verdict, AllocError>
         requires { IsReady assumptions.now self.old }
         ensures added { self.new.added ≡ self.old.added }
+        ensures logged { self.new.logged ≡ self.old.logged }
         ensures found { IsSearched assumptions.now self.old self.new }
         ensures verdict { IfOk result (λ v. IsVerdict assumptions.now self.new v) }
         ensures whole { result ≡ Ok Verdict.Whole → ¬ Settles (self.old.added ++ self.old.learnt) assumptions.now }
@@ -338,6 +436,7 @@ impl Engine {
                     self.facts();
                     return Ok(Verdict::Whole);
                 }
+                Turn::Closed(conflict) => return Ok(Verdict::Closed(conflict)),
                 Turn::Refuted(n) => return Ok(Verdict::Refuted(n)),
             }
         }

@@ -4,10 +4,10 @@
 mod analysis;
 mod answer;
 mod engine;
-mod heap;
+mod hints;
+mod log;
 mod marks;
 mod model;
-mod order;
 mod solve;
 mod solver;
 mod target;

@@ -1,7 +1,7 @@
 ghost use Rattle.std.specs.Prelude.{◌≡◌, ◌⊎◌, ◌++◌, ◌∷◌, ◌≤◌, ◌<◌, [], ℕ, ℤ, List, length, take, Contains, IfOk, OnOk, OnErr, slice_index_or};
 ghost use Rattle.l2_cnf.specs.Logic.{Settles};
 ghost use Rattle.l2_cdcl.specs.Learning.{IsLearning};
-ghost use Rattle.l2_cdcl.specs.Answering.{IsAnswer};
+ghost use Rattle.l2_cdcl.specs.Answering.{IsAnswer, IsClosed};
 
 use crate::answer::Answer;
 use crate::engine::{Engine, Verdict};
@@ -11,15 +11,18 @@ use std::alloc::AllocError;
 /// Answers whether the clauses have a model under these assumptions.
 pub fn answer(engine: &mut Engine, assumptions: &[Lit]) -> Result<Answer, AllocError>
     ensures added { engine.new.added ≡ engine.old.added }
+    ensures logged { engine.new.logged ≡ engine.old.logged }
     ensures learning { IsLearning assumptions.now engine.old.added engine.old.learnt engine.new.learnt }
     ensures answer { IfOk result (λ a. IsAnswer assumptions.now engine.old.added engine.old.learnt engine.new.learnt a) }
+    ensures closed { IfOk result (λ a. IsClosed assumptions.now engine.new.learnt a) }
 {
     engine.facts();
     if engine.is_refuted() {
         return Ok(Answer::Unsat(engine.core(&assumptions[..0])?));
     }
-    if engine.begin(assumptions)? {
-        engine.refute()?;
+    if let Some(conflict) = engine.begin(assumptions)? {
+        engine.facts();
+        engine.refute(conflict)?;
         engine.facts();
         return Ok(Answer::Unsat(engine.core(&assumptions[..0])?));
     }
@@ -28,24 +31,15 @@ pub fn answer(engine: &mut Engine, assumptions: &[Lit]) -> Result<Answer, AllocE
             engine.facts();
             Ok(Answer::Sat(engine.assignment()?))
         }
-        Verdict::Refuted(n) => {
+        Verdict::Closed(conflict) => {
             engine.facts();
-            close(engine, assumptions, n)?;
+            engine.refute(conflict)?;
+            engine.facts();
+            Ok(Answer::Unsat(engine.core(&assumptions[..0])?))
+        }
+        Verdict::Refuted(n) => {
             engine.facts();
             Ok(Answer::Unsat(engine.core(&assumptions[..n])?))
         }
     }
-}
-
-// Learns the empty clause where no assumption is needed.
-fn close(engine: &mut Engine, assumptions: &[Lit], n: usize) -> Result<(), AllocError>
-    requires settled { Settles engine.old.board.clauses (take n assumptions.now) }
-    ensures added { engine.new.added ≡ engine.old.added }
-    ensures err { OnErr result (engine.new.learnt ≡ engine.old.learnt) }
-    ensures ok { OnOk result (((n ≡ 0) × (engine.new.learnt ≡ engine.old.learnt ++ [] ∷ [])) ⊎ ((engine.new.learnt ≡ engine.old.learnt))) }
-{
-    if n > 0 {
-        return Ok(());
-    }
-    engine.refute()
 }

@@ -1,5 +1,5 @@
 -- Steps kept by their parts: how many there are, one of them, and one more.
-use Rattle.std.proofs.Common.{◌≡◌, ℕ, suc, zero, ◌<◌, List, ◌++◌, [], ◌∷◌, length, get_or, refl, ap, arith}
+use Rattle.std.proofs.Common.{◌≡◌, ℕ, suc, zero, ◌<◌, List, ◌++◌, [], ◌∷◌, length, take, get_or, refl, ap, arith}
 use Rattle.std.specs.Prelude.{ℤ}
 use Rattle.l2_cnf.specs.Lines.{step_of, steps_of, step_at}
 
@@ -23,3 +23,10 @@ steps_of-push [] [] (h ∷ hints) number clause hint e f = absurd (omega (arith,
 steps_of-push (n ∷ numbers) [] hints number clause hint e f = absurd (omega (arith, e))
 steps_of-push (n ∷ numbers) (c ∷ clauses) [] number clause hint e f = absurd (omega (arith, f))
 steps_of-push (n ∷ numbers) (c ∷ clauses) (h ∷ hints) number clause hint e f = ap (λ x. step_of n c h ∷ x) (steps_of-push numbers clauses hints number clause hint (omega (arith, e)) (omega (arith, f)))
+
+pub steps_of-take : (n : ℕ) (numbers : List ℕ) (clauses : List (List ℤ)) (hints : List (List ℕ)) → length clauses ≡ length numbers → length hints ≡ length numbers → steps_of (take n numbers) (take n clauses) (take n hints) ≡ take n (steps_of numbers clauses hints)
+steps_of-take zero numbers clauses hints e f = refl
+steps_of-take (suc n) [] clauses hints e f = refl
+steps_of-take (suc n) (number ∷ numbers) [] hints e f = absurd (omega (arith, e))
+steps_of-take (suc n) (number ∷ numbers) (c ∷ clauses) [] e f = absurd (omega (arith, f))
+steps_of-take (suc n) (number ∷ numbers) (c ∷ clauses) (h ∷ hints) e f = ap (λ x. step_of number c h ∷ x) (steps_of-take n numbers clauses hints (omega (arith, e)) (omega (arith, f)))

@@ -1,4 +1,4 @@
-ghost use Rattle.std.specs.Prelude.{◌≡◌, ◌<◌, ◌^◌, ◌++◌, ◌∷◌, [], length, OnOk, OnErr};
+ghost use Rattle.std.specs.Prelude.{◌≡◌, ◌<◌, ◌^◌, ◌-◌, ◌++◌, ◌∷◌, [], length, take, OnOk, OnErr};
 ghost use Rattle.l2_cnf.specs.Lines.{step_at, step_of};
 
 use crate::Lit;
@@ -56,6 +56,16 @@ impl Lines {
             return Err(error);
         }
         Ok(())
+    }
+
+    /// Takes the last step out.
+    pub fn pop(&mut self)
+        requires { 0 < length self.old }
+        ensures { self.new ≡ take (length self.old - 1) self.old }
+    {
+        self.numbers.pop();
+        self.clauses.pop();
+        self.hints.pop();
     }
 
     pub fn number(&self, i: u64) -> u64

@@ -1,4 +1,4 @@
-use Rattle.std.proofs.Common.{◌≡◌, ◌≤◌, ◌<◌, ℕ, length}
+use Rattle.std.proofs.Common.{◌≤◌}
 use Rattle.l2_cdcl.specs.Analysis.{AreUnmarked}
 use Rattle.l2_cdcl.proofs.analysis.last_marked.Given as goal
 

@@ -1,9 +1,9 @@
-use Rattle.std.proofs.Common.{◌≡◌, ◌≢◌, ◌≤◌, ◌<◌, ◌∙◌, ◌++◌, ◌∷◌, [], ℕ, List, length, get_or, set, sym, ap, arith, true, false, Bool, refl}
-use Rattle.std.specs.Prelude.{ℤ, pos, neg_ℤ, nat_abs}
+use Rattle.std.proofs.Common.{◌≡◌, ◌≢◌, ◌<◌, ◌∙◌, ℕ, List, length, get_or, sym, ap, arith, true, false, Bool}
+use Rattle.std.specs.Prelude.{pos, neg_ℤ, nat_abs}
 use Rattle.l2_cnf.proofs.Laws.{nat_abs-neg_ℤ}
 use Rattle.l2_watch.proofs.Moves.{code_tells, code_parts}
-use Rattle.l2_cdcl.specs.Analysis.{IsMarked, IsAside, IsOpen}
-use Rattle.l2_cdcl.proofs.Analyses.{low_open, marked_open, mark_here, mark_below, more_same}
+use Rattle.l2_cdcl.specs.Analysis.{IsMarked}
+use Rattle.l2_cdcl.proofs.Analyses.{marked_open, mark_here, mark_below}
 use Rattle.l2_cdcl.proofs.analysis.mark_one.Goals as goal
 use Rattle.l2_cdcl.proofs.analysis.mark_one.Goals.{After-place-place, Else-eq}
 
@@ -15,6 +15,10 @@ there c = c.place-place.ensures.there ∙ c.negated.ensures
 
 room : (c : After-place-place) → c.args.literal ≢ c.args.but → nat_abs c.args.literal < length c.args.marks.now
 room c ne = omega (arith, (c.facts.ensures.literals_over (neg_ℤ c.args.literal) (c.requires.false_one ne)).1, nat_abs-neg_ℤ c.args.literal, c.requires.room)
+
+-- the variable wasn't marked
+unmarked : (marks : List Bool) (v w : ℕ) (r : Bool) → r ≡ get_or marks w false → w ≡ v → r ≡ false → ¬ IsMarked marks v
+unmarked marks v w r e f g is = let t : true ≡ false = sym is ∙ ap (λ x. get_or marks x false) (sym f) ∙ sym e ∙ g in cc
 
 pub is_marked-requires : goal.is_marked-requires
 is_marked-requires c = omega (arith, room (goal.at.is_marked-requires c).After-place-place (differs (goal.at.is_marked-requires c).Else-eq), c.var-var.ensures.var)
@@ -44,12 +48,12 @@ returns-then-place-at-2-clause-open c = λ ne.
 pub returns-clause-put : goal.returns-clause-put
 returns-clause-put c =
     let d = (goal.at.returns-clause-put c).After-place-place in
-    rw (c.mark-2.ensures, c.var-var.ensures.var, c.in_ok-push.ensures.ok) ((mark_below c.args.watch.now.past.literals c.args.at.low c.args.at.start c.place-place.result c.args.marks.now c.args.aside.now.items c.args.literal c.place-place.ensures.within (there d) c.requires.put c.facts.ensures.apart c.requires.start (room d (differs (goal.at.returns-clause-put c).Else-eq)) (omega arith)).1)
+    rw (c.mark-2.ensures, c.var-var.ensures.var, c.in_ok-push.ensures.ok) ((mark_below c.args.watch.now.past.literals c.args.at.low c.args.at.start c.place-place.result c.args.marks.now c.args.aside.now.items c.args.literal c.place-place.ensures.within (there d) c.requires.put c.facts.ensures.apart c.requires.start (room d (differs (goal.at.returns-clause-put c).Else-eq)) (unmarked c.args.marks.now (nat_abs c.args.literal) c.var-var.result c.is_marked.result c.is_marked.ensures c.var-var.ensures.var c.if-is_marked.false) (omega arith)).1)
 
 pub returns-clause-open : goal.returns-clause-open
 returns-clause-open c = λ ne.
     let d = (goal.at.returns-clause-open c).After-place-place in
-    rw (c.mark-2.ensures, c.var-var.ensures.var, c.in_ok-push.ensures.ok) ((mark_below c.args.watch.now.past.literals c.args.at.low c.args.at.start c.place-place.result c.args.marks.now c.args.aside.now.items c.args.literal c.place-place.ensures.within (there d) c.requires.put c.facts.ensures.apart c.requires.start (room d (differs (goal.at.returns-clause-open c).Else-eq)) (omega arith)).2)
+    rw (c.mark-2.ensures, c.var-var.ensures.var, c.in_ok-push.ensures.ok) ((mark_below c.args.watch.now.past.literals c.args.at.low c.args.at.start c.place-place.result c.args.marks.now c.args.aside.now.items c.args.literal c.place-place.ensures.within (there d) c.requires.put c.facts.ensures.apart c.requires.start (room d (differs (goal.at.returns-clause-open c).Else-eq)) (unmarked c.args.marks.now (nat_abs c.args.literal) c.var-var.result c.is_marked.result c.is_marked.ensures c.var-var.ensures.var c.if-is_marked.false) (omega arith)).2)
 
 pub returns-then-eq-clause-open : goal.returns-then-eq-clause-open
 returns-then-eq-clause-open c = λ ne. absurd (ne (code_tells c.args.literal c.args.but (sym c.eq.ensures ∙ c.if-eq.true)))

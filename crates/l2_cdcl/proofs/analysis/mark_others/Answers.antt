@@ -1,10 +1,9 @@
-use Rattle.std.proofs.Common.{◌≡◌, ◌≢◌, ◌≤◌, ◌<◌, ◌+◌, ◌∙◌, ℕ, List, length, get_or, sym, ap, arith, true, false, subst, inl, inr}
-use Rattle.std.specs.Prelude.{ℤ, pos, neg_ℤ, Contains}
+use Rattle.std.proofs.Common.{◌≡◌, ◌≢◌, ◌<◌, ◌∙◌, ℕ, length, get_or, sym, ap, arith, subst, inl, inr}
+use Rattle.std.specs.Prelude.{pos, nat_abs}
 use Rattle.std.proofs.lemmas.List.{get_or_default}
 use borrow.Author.Count.{below_more}
-use Rattle.l2_watch.proofs.Moves.{code_tells, code_parts}
-use Rattle.l2_cdcl.specs.Analysis.{IsOpen, IsAside, IsMore}
-use Rattle.l2_cdcl.proofs.Analyses.{open_more, more_then, more_same}
+use Rattle.l2_cdcl.specs.Analysis.{IsOpen}
+use Rattle.l2_cdcl.proofs.Analyses.{open_more, more_then}
 use Rattle.l2_cdcl.proofs.analysis.mark_others.Goals as goal
 
 pub loop-literal-preserved : goal.loop-literal-preserved
@@ -23,7 +22,22 @@ loop-literal-preserved c =
       opened = below_more (λ k. get_or clause k (pos 0) ≢ c.args.but → IsOpen trail c.args.at.low c.args.at.start (length trail) marks aside (get_or clause k (pos 0))) i
           (λ k h ne. open_more trail c.args.at.low c.args.at.start (length trail) c.loop-literal.marks marks c.loop-literal.aside.items aside told.more (get_or clause k (pos 0)) (c.loop-literal.invariant.opened k h ne))
           (subst (λ x. x ≢ c.args.but → IsOpen trail c.args.at.low c.args.at.start (length trail) marks aside x) read told.open);
+      from = λ v h. elim (told.from v h) [
+        | inl before ↦ elim (c.loop-literal.invariant.from v before) [
+          | inl old ↦ inl old
+          | inr (k, b, e) ↦ inr (k, omega (arith, b), e)
+        ]
+        | inr here ↦ inr (i, omega arith, ap nat_abs (sym read) ∙ here)
+      ];
     }
+
+pub returns-clause-from : goal.returns-clause-from
+returns-clause-from c = λ v h. elim (c.loop-literal.invariant.from v h) [
+  | inl old ↦ inl old
+  | inr (k, b, e) ↦
+      let within : k < length c.args.clause.now = omega (arith, b) in
+      inr (get_or c.args.clause.now k (pos 0), (k, within, get_or_default c.args.clause.now k _ _ within), e)
+]
 
 pub returns-clause-open : goal.returns-clause-open
 returns-clause-open c = λ m (k, h, e) ne.

@@ -1,7 +1,5 @@
-use Rattle.std.proofs.Common.{◌≡◌, ◌≤◌, ℕ, length, arith}
-use Rattle.std.proofs.lemmas.List.{nil_from_length}
 use Rattle.l2_cdcl.proofs.Analyses.{start_within}
-use Rattle.l2_cdcl.proofs.Targets.{target_some, target_none, false_there}
+use Rattle.l2_cdcl.proofs.Targets.{target_some, false_there}
 use Rattle.l2_cdcl.proofs.target.aim.Goals as goal
 
 pub last_fallen-last-requires-clause-false_ones : goal.last_fallen-last-requires-clause-false_ones

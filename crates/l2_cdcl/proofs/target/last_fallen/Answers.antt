@@ -1,5 +1,5 @@
-use Rattle.std.proofs.Common.{◌≡◌, ◌⊎◌, ◌≤◌, ◌<◌, ◌+◌, ◌∙◌, ℕ, List, length, get_or, sym, ap, arith, subst, inl, inr}
-use Rattle.std.specs.Prelude.{ℤ, pos, neg_ℤ, Contains}
+use Rattle.std.proofs.Common.{◌≡◌, ◌⊎◌, ◌<◌, ◌+◌, ◌∙◌, ℕ, length, get_or, sym, ap, arith, subst, inl, inr}
+use Rattle.std.specs.Prelude.{pos, neg_ℤ, Contains}
 use Rattle.std.proofs.lemmas.List.{get_or_default}
 use borrow.Author.Count.{below_more}
 use Rattle.l2_cdcl.specs.declared.target.Fallen.{Fallen}

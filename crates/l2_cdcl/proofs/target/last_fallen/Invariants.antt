@@ -1,5 +1,5 @@
-use Rattle.std.proofs.Common.{◌≡◌, ◌≤◌, ◌<◌, ◌+◌, ℕ, length, get_or}
-use Rattle.std.specs.Prelude.{ℤ, pos, neg_ℤ, Contains}
+use Rattle.std.proofs.Common.{◌≡◌, ◌<◌, ◌+◌, ℕ, length, get_or}
+use Rattle.std.specs.Prelude.{pos, neg_ℤ, Contains}
 use Rattle.l2_cdcl.specs.Analysis.{IsFalseBefore}
 use Rattle.l2_cdcl.proofs.target.last_fallen.Given as goal
 

@@ -1,4 +1,4 @@
-use Rattle.std.proofs.Common.{◌≡◌, ◌≤◌, ◌<◌, ℕ, length}
+use Rattle.std.proofs.Common.{◌≤◌, ◌<◌, length}
 use Rattle.l2_watch.specs.Board.{start_of}
 use Rattle.l2_cdcl.proofs.target.level_of.Given as goal
 

@@ -1,10 +1,8 @@
-use Rattle.std.proofs.Common.{◌≡◌, ◌≢◌, ◌++◌, ◌∷◌, [], ◌∙◌, ◌-◌, ◌+◌, ◌≤◌, ◌<◌, ℕ, List, length, take, get_or, sym, ap, refl, true, false, inl, inr, arith, subst}
-use Rattle.std.specs.Prelude.{ℤ, pos, neg_ℤ, Contains}
+use Rattle.std.proofs.Common.{◌≡◌, ◌∙◌, ◌+◌, ◌<◌, length, take, get_or, sym, ap, refl, true, arith, subst}
+use Rattle.std.specs.Prelude.{pos}
 use Rattle.std.proofs.lemmas.List.{get_or_default}
 use Rattle.l2_cnf.specs.Logic.{Settles}
-use Rattle.l2_watch.specs.Board.{Board, IsBoard}
-use Rattle.l2_cdcl.specs.Search.{IsEngine, IsReady, AreAssumed}
-use Rattle.l2_cdcl.specs.Learning.{learnt_of}
+use Rattle.l2_cdcl.specs.Search.{AreAssumed}
 use Rattle.l2_cdcl.proofs.Engines.{IsEngine-same}
 use Rattle.l2_cdcl.proofs.Reached.{settled_false, whole_met}
 use Rattle.l2_cdcl.proofs.engine.Engine.extend.Goals as goal
@@ -30,17 +28,17 @@ returns-then-is_false-clause-turn c =
     let read : get_or assumptions (length b.levels) (pos 0) ≡ c.index-assumptions-level.result =
     get_or_default assumptions (length b.levels) (pos 0) c.index-assumptions-level.result most ∙ ap (λ n. get_or assumptions n c.index-assumptions-level.result) (sym level) ∙ sym c.index-assumptions-level.is in
     let settled : Settles b.clauses (take (length b.levels + 1) assumptions) = settled_false b assumptions c.index-assumptions-level.result c.facts.ensures (assumed d) most read (c.is_false.ensures.0 c.if-is_false.true) in
-    (refl, omega (arith, level, most), subst (λ x. Settles x (take (c.levels-level.result + 1) assumptions)) (ap (λ x. x.clauses) (board d)) (subst (λ n. Settles b.clauses (take (n + 1) assumptions)) (sym level) settled))
+    (refl, omega arith, omega (arith, level, most), subst (λ x. Settles x (take (c.levels-level.result + 1) assumptions)) (ap (λ x. x.clauses) (board d)) (subst (λ n. Settles b.clauses (take (n + 1) assumptions)) (sym level) settled))
 
 pub invariant_of-self-then-level-assumptions : goal.invariant_of-self-then-level-assumptions
 invariant_of-self-then-level-assumptions c =
     let d = (goal.at.invariant_of-self-then-level-assumptions c).After-facts in
-    IsEngine-same c.self.inside.learnt_at.items c.self.inside.watch c.decide.new.self c.self.inside.marks c.self.inside.marks c.self.inside.refuted c.self.invariant c.decide.ensures.clauses (λ t. omega (arith, room d, c.decide.ensures.variables))
+    IsEngine-same c.self.inside.learnt_at.items c.self.inside.watch c.decide.new.self c.self.inside.marks c.self.inside.marks c.self.inside.refuted c.self.inside.log c.self.invariant c.decide.ensures.clauses (λ t. omega (arith, room d, c.decide.ensures.variables))
 
 pub invariant_of-self-in-Some : goal.invariant_of-self-in-Some
 invariant_of-self-in-Some c =
     let d = (goal.at.invariant_of-self-in-Some c).After-facts in
-    IsEngine-same c.self.inside.learnt_at.items c.self.inside.watch c.decide-in-Some.new.self c.self.inside.marks c.self.inside.marks c.self.inside.refuted c.self.invariant c.decide-in-Some.ensures.clauses (λ t. omega (arith, room d, c.decide-in-Some.ensures.variables))
+    IsEngine-same c.self.inside.learnt_at.items c.self.inside.watch c.decide-in-Some.new.self c.self.inside.marks c.self.inside.marks c.self.inside.refuted c.self.inside.log c.self.invariant c.decide-in-Some.ensures.clauses (λ t. omega (arith, room d, c.decide-in-Some.ensures.variables))
 
 pub returns-in-None-clause-turn : goal.returns-in-None-clause-turn
 returns-in-None-clause-turn c =

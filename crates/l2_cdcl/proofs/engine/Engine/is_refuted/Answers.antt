@@ -1,4 +1,4 @@
-use Rattle.std.proofs.Common.{◌≡◌, [], sym, subst}
+use Rattle.std.proofs.Common.{[], sym, subst}
 use Rattle.std.specs.Prelude.{Contains}
 use Rattle.l2_cdcl.proofs.engine.Engine.is_refuted.Goals as goal
 

@@ -1,7 +1,5 @@
-use Rattle.std.proofs.Common.{◌≡◌, ◌<◌, ◌∙◌, ℕ, List, [], length, get_or, sym, ap, arith, subst}
-use Rattle.std.specs.Prelude.{Contains}
-use Rattle.std.proofs.lemmas.List.{length-map, get_or_default, get_or-map}
-use Rattle.l2_cdcl.specs.Learning.{learnt_of}
+use Rattle.std.proofs.Common.{◌<◌, ◌∙◌, [], length, get_or, sym, ap, arith}
+use Rattle.std.proofs.lemmas.List.{length-map, get_or-map}
 use Rattle.l2_cdcl.proofs.engine.Engine.learnt.Goals as goal
 use Rattle.l2_cdcl.proofs.engine.Engine.learnt.Goals.{After-index}
 

@@ -1,4 +1,4 @@
-use Rattle.std.proofs.Common.{◌≡◌, ◌∙◌, refl, sym, ap, subst}
+use Rattle.std.proofs.Common.{◌∙◌, refl, subst}
 use Rattle.l2_cdcl.specs.Search.{IsTurn, IsWhole}
 use Rattle.l2_cdcl.specs.Searched.{IsSearched}
 use Rattle.l2_cdcl.proofs.Searches.{searched_none, searched_on, searched_same, left_falls, unsettled_before}
@@ -7,7 +7,7 @@ use Rattle.l2_cdcl.proofs.engine.Engine.search.Goals as goal
 use Rattle.l2_cdcl.proofs.engine.Engine.search.Goals.{In-Learnt}
 
 pub turns-init : goal.turns-init
-turns-init c = record { ready = c.requires; added = refl; variables = refl; searched = searched_none c.args.assumptions.now c.args.self.now }
+turns-init c = record { ready = c.requires; added = refl; logged = refl; variables = refl; searched = searched_none c.args.assumptions.now c.args.self.now }
 
 on : (c : In-Learnt) → IsSearched c.args.assumptions.now c.args.self.now c.turn.new.self
 on c = searched_on c.args.assumptions.now c.args.self.now c.turns.self c.turn.new.self c.in_ok-turn.field-0 c.in-Learnt.is c.turns.invariant.searched c.facts.ensures c.turns.invariant.added c.turns.invariant.variables c.in_ok-turn.ensures.turn
@@ -19,6 +19,7 @@ pub turns-preserved : goal.turns-preserved
 turns-preserved c = record {
   ready = c.turn.ensures.ready;
   added = c.turn.ensures.added ∙ c.turns.invariant.added;
+  logged = c.turn.ensures.logged ∙ c.turns.invariant.logged;
   variables = c.turn.ensures.variables ∙ c.turns.invariant.variables;
   searched = on (goal.at.turns-preserved c).In-Learnt;
 }

@@ -1,4 +1,4 @@
-use Rattle.std.proofs.Common.{◌≡◌, ◌-◌, ℕ, length}
+use Rattle.std.proofs.Common.{◌≡◌, ◌-◌, length}
 use Rattle.l2_cdcl.specs.Search.{IsReady}
 use Rattle.l2_cdcl.specs.Searched.{IsSearched}
 use Rattle.l2_cdcl.proofs.Searches.{left}
@@ -8,6 +8,7 @@ abbrev pub invariant-turns : goal.invariant-turns
 invariant-turns l = record {
   ready : IsReady l.assumptions l.self;
   added : l.self.added ≡ l.initial.self.added;
+  logged : l.self.logged ≡ l.initial.self.logged;
   variables : l.self.board.variables ≡ l.initial.self.board.variables;
   searched : IsSearched l.assumptions l.initial.self l.self;
 }

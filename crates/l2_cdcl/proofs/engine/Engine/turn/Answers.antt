@@ -1,4 +1,4 @@
-use Rattle.std.proofs.Common.{◌≡◌, ◌≢◌, ◌∙◌, ◌+◌, ◌≤◌, ◌<◌, [], ℕ, List, length, sym, ap, refl, true, false, arith, subst, Ok}
+use Rattle.std.proofs.Common.{◌∙◌, length, ap, arith}
 use Rattle.l2_cdcl.specs.Learning.{learnt_of, added_of}
 use Rattle.l2_cdcl.specs.Search.{Search, IsEngine, IsTurn}
 use Rattle.l2_cdcl.specs.declared.engine.Turn.{Turn}
@@ -7,8 +7,8 @@ use Rattle.l2_cdcl.proofs.Reached.{turn_before}
 use Rattle.l2_cdcl.proofs.engine.Engine.turn.Goals as goal
 use Rattle.l2_cdcl.proofs.engine.Engine.turn.Goals.{After-propagate}
 
-kept : (c : After-propagate) → IsEngine c.self.inside.learnt_at.items c.propagate.new.self c.self.inside.marks c.self.inside.refuted
-kept c = IsEngine-same c.self.inside.learnt_at.items c.self.inside.watch c.propagate.new.self c.self.inside.marks c.self.inside.marks c.self.inside.refuted c.self.invariant c.propagate.ensures.clauses
+kept : (c : After-propagate) → IsEngine c.self.inside.learnt_at.items c.propagate.new.self c.self.inside.marks c.self.inside.refuted c.self.inside.log
+kept c = IsEngine-same c.self.inside.learnt_at.items c.self.inside.watch c.propagate.new.self c.self.inside.marks c.self.inside.marks c.self.inside.refuted c.self.inside.log c.self.invariant c.propagate.ensures.clauses
     (λ t. (let room = c.self.invariant.room (ap (λ s. s.board.ready) c.self.view_is ∙ c.requires.ready) in omega (arith, room, c.propagate.ensures.variables)))
 
 pub invariant_of-self : goal.invariant_of-self
@@ -22,7 +22,7 @@ invariant_of-self-in-None c = kept (goal.at.invariant_of-self-in-None c).After-p
 
 -- the search after propagation
 mid : (c : After-propagate) → Search
-mid c = record { added = added_of c.self.inside.learnt_at.items c.propagate.new.self.clauses; learnt = learnt_of c.self.inside.learnt_at.items c.propagate.new.self.clauses; board = c.propagate.new.self; marked = length c.self.inside.marks }
+mid c = record { added = added_of c.self.inside.learnt_at.items c.propagate.new.self.clauses; learnt = learnt_of c.self.inside.learnt_at.items c.propagate.new.self.clauses; board = c.propagate.new.self; marked = length c.self.inside.marks; logged = c.self.inside.log.kept; steps = c.self.inside.log.steps }
 
 seen_before : (c : After-propagate) (new : Search) (t : Turn) → IsTurn c.args.assumptions.now (mid c) new t → IsTurn c.args.assumptions.now c.args.self.now new t
 unfolding mid

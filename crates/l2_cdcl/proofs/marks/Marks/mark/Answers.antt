@@ -1,4 +1,4 @@
-use Rattle.std.proofs.Common.{◌≡◌, ◌∙◌, ap, set, true}
+use Rattle.std.proofs.Common.{◌∙◌, ap, set, true}
 use Rattle.l2_cdcl.proofs.Stamps.{marked_set}
 use Rattle.l2_cdcl.proofs.marks.Marks.mark.Goals as goal
 

@@ -1,5 +1,5 @@
 ghost use Rattle.std.specs.Prelude.{◌≡◌, ◌≤◌, ◌<◌, ◌^◌, ℕ, ℤ, nat_abs, neg_ℤ, Bool, true, Contains, MatchOption, IsTrue, ◌↔◌};
-ghost use Rattle.l2_cdcl.specs.Choice.{IsFree, HasFree};
+ghost use Rattle.l2_order.specs.Choice.{IsFree, HasFree};
 
 use crate::heap::Heap;
 use l2_cnf::Lit;
@@ -136,7 +136,7 @@ fn first_free(watch: &Watch) -> Option<Lit>
 }
 
 // Whether a literal has no value.
-pub fn is_free(watch: &Watch, literal: Lit) -> bool
+fn is_free(watch: &Watch, literal: Lit) -> bool
     requires ready { watch.now.ready ≡ true }
     requires over { nat_abs literal ≤ watch.now.variables }
     ensures { IsTrue result ↔ IsFree watch.now.past.literals watch.now.variables literal }

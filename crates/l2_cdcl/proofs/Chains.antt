@@ -1,0 +1,177 @@
+-- The hints of a clause that is learnt: reasons in the trail's order, and then the clause of the conflict.
+use Rattle.std.proofs.Common.{◌≡◌, ◌≢◌, ◌⊎◌, inl, inr, ℕ, suc, zero, ◌+◌, ◌-◌, ◌<◌, ◌≤◌, List, ◌++◌, [], ◌∷◌, length, reverse, get_or, map, take, drop, refl, sym, ap, ◌∙◌, subst, arith, Bool}
+use Rattle.std.specs.Prelude.{ℤ, pos, nat_abs, neg_ℤ, Contains}
+use Rattle.std.proofs.lemmas.List.{reverse-append, drop_all, take_all}
+use Rattle.std.proofs.Math.Seq.{take-suc, drop-cons}
+use Rattle.std.proofs.lemmas.List.Elements.{Contains-append_left, Contains-push, Contains-push_cases}
+use lib.IntN.{neg_ℤ-neg_ℤ}
+use Rattle.l2_cnf.specs.Trail.{AreApart}
+use Rattle.l2_cnf.specs.Logic.{AllWithin}
+use Rattle.l2_cnf.specs.Steps.{IsUnit, HasNumber, clause_of, Leads, IsStep}
+use Rattle.l2_cnf.proofs.Trails.{AreApart-push}
+use Rattle.l2_cnf.proofs.Laws.{nat_abs-neg_ℤ}
+use Rattle.l2_cnf.proofs.Derivations.{Contains-map, Contains-unmap}
+use Rattle.l2_watch.specs.Past.{IsReason}
+use Rattle.l2_watch.specs.Board.{Board, IsBoard}
+use Rattle.l2_cdcl.specs.Analysis.{AreUnmarked, IsFalseBefore, IsOpen, IsMore, HasVariable, IsLeft, IsPoint}
+use Rattle.l2_cdcl.specs.Chain.{Chain, IsLater}
+use Rattle.l2_cdcl.specs.Level.{IsPresent, IsRootConflict}
+use Rattle.l2_cdcl.proofs.Analyses.{open_end, open_others, open_rest, open_left, cause_zero, cause_some}
+use Rattle.l2_cdcl.proofs.Targets.{part_false, false_part, later_false, point_over}
+
+reverse-push : (numbers : List ℕ) (n : ℕ) → reverse (numbers ++ n ∷ []) ≡ n ∷ reverse numbers
+reverse-push numbers n = reverse-append numbers (n ∷ [])
+
+-- more literals are false, and more are resolved
+pub Chain-more : (clauses : List (List ℤ)) (few many less resolved : ℤ → Type 0) (hints : List ℕ) → ((m : ℤ) → few m → many m) → ((l : ℤ) → less l → resolved l) → Chain clauses few less hints → Chain clauses many resolved hints
+unfolding Chain
+Chain-more clauses few many less resolved hints more later chain true_ones false_ones unset = chain true_ones (λ m h. false_ones m (more m h)) (λ l r. unset l (later l r))
+
+-- a hint before others
+leads_before : (clauses : List (List ℤ)) (true_ones : List ℤ) (hint : ℕ) (hints : List ℕ) (l : ℤ) → HasNumber clauses hint → IsUnit true_ones (clause_of clauses hint) l → Leads clauses (true_ones ++ l ∷ []) hints → Leads clauses true_ones (hint ∷ hints)
+leads_before clauses true_ones hint [] l number unit leads = absurd leads
+leads_before clauses true_ones hint (next ∷ hints) l number unit leads = (number, (l, unit, leads))
+
+-- the clause of the conflict
+pub chain_start : (clauses : List (List ℤ)) (hint : ℕ) (resolved : ℤ → Type 0) → HasNumber clauses hint → Chain clauses (Contains (clause_of clauses hint)) resolved (hint ∷ [])
+unfolding Chain
+chain_start clauses hint resolved number true_ones false_ones unset = (number, λ m h. false_ones m h)
+
+-- a reason before the others
+pub chain_step : (clauses : List (List ℤ)) (before after resolved : ℤ → Type 0) (hint : ℕ) (hints : List ℕ) (l : ℤ) → HasNumber clauses hint → Contains (clause_of clauses hint) l
+    → ((m : ℤ) → Contains (clause_of clauses hint) m → m ≢ l → after m) → ((m : ℤ) → before m → (m ≡ neg_ℤ l) ⊎ after m) → ((x : ℤ) → resolved x → nat_abs l ≢ nat_abs x)
+    → Chain clauses before resolved hints → Chain clauses after (λ x. (x ≡ l) ⊎ resolved x) (hint ∷ hints)
+unfolding Chain
+chain_step clauses before after resolved hint hints l number stands others rest apart chain true_ones false_ones unset =
+    let leads : Leads clauses (true_ones ++ l ∷ []) hints = chain (true_ones ++ l ∷ [])
+    (λ m h. elim (rest m h) [
+      | inl e ↦ subst (Contains (true_ones ++ l ∷ [])) (sym (neg_ℤ-neg_ℤ l) ∙ ap neg_ℤ (sym e)) (Contains-push true_ones l)
+      | inr still ↦ Contains-append_left true_ones (l ∷ []) (neg_ℤ m) (false_ones m still)
+    ])
+    (λ x r m h. elim (Contains-push_cases true_ones l m h) [
+      | inl old ↦ unset x (inr r) m old
+      | inr e ↦ λ same. apart x r (ap nat_abs e ∙ same)
+    ]) in
+    leads_before clauses true_ones hint hints l number (record { stands = stands; unset = unset l (inl refl); others = λ m h ne. false_ones m (others m h ne) }) leads
+
+-- where a trace begins
+pub chain_begin : (clauses : List (List ℤ)) (trail : List ℤ) (low start k conflict : ℕ) (marks : List Bool) (aside : List ℤ) (numbers : List ℕ) → conflict < length clauses → start ≤ k → AreUnmarked trail marks (k + 1) (length trail)
+    → ((m : ℤ) → Contains (get_or clauses conflict []) m → IsOpen trail low start (length trail) marks aside m) → numbers ≡ (conflict + 1) ∷ [] → Chain clauses (IsOpen trail low start (k + 1) marks aside) (IsLater trail k) (reverse numbers)
+chain_begin clauses trail low start k conflict marks aside numbers h first none all e =
+    let n : conflict + 1 - 1 ≡ conflict = omega arith in
+    let here : clause_of clauses (conflict + 1) ≡ get_or clauses conflict [] = ap (λ i. get_or clauses i []) n in
+    subst (Chain clauses (IsOpen trail low start (k + 1) marks aside) (IsLater trail k)) (sym (ap reverse e))
+    (Chain-more clauses (Contains (clause_of clauses (conflict + 1))) (IsOpen trail low start (k + 1) marks aside) (IsLater trail k) (IsLater trail k) ((conflict + 1) ∷ [])
+    (λ m c. open_end trail low start (k + 1) (length trail) marks aside none (omega (arith, first)) m (all m (subst (λ x. Contains x m) here c))) (λ l r. r)
+    (chain_start clauses (conflict + 1) (IsLater trail k) (omega arith, omega (arith, h))))
+
+-- a step of the trace, from k to p
+pub chain_resolve : (clauses : List (List ℤ)) (trail : List ℤ) (low start k p reason : ℕ) (marks marks' : List Bool) (aside aside' : List ℤ) (numbers numbers' : List ℕ) → AreApart trail → k < length trail → start ≤ p → p < k
+    → reason ≢ 0 → reason - 1 < length clauses → IsReason trail k (get_or clauses (reason - 1) []) → IsMore marks marks' aside aside' → ((m : ℤ) → Contains (get_or clauses (reason - 1) []) m → m ≢ get_or trail k (pos 0) → IsOpen trail low start (length trail) marks' aside' m)
+    → AreUnmarked trail marks' (p + 1) k → numbers' ≡ numbers ++ reason ∷ [] → Chain clauses (IsOpen trail low start (k + 1) marks aside) (IsLater trail k) (reverse numbers) → Chain clauses (IsOpen trail low start (p + 1) marks' aside') (IsLater trail p) (reverse numbers')
+chain_resolve clauses trail low start k p reason marks marks' aside aside' numbers numbers' apart h first last some within is more others none e chain =
+    let l : ℤ = get_or trail k (pos 0) in
+    subst (Chain clauses (IsOpen trail low start (p + 1) marks' aside') (IsLater trail p)) (sym (ap reverse e ∙ reverse-push numbers reason))
+    (Chain-more clauses (IsOpen trail low start k marks' aside') (IsOpen trail low start (p + 1) marks' aside') (λ x. (x ≡ l) ⊎ IsLater trail k x) (IsLater trail p) (reason ∷ reverse numbers)
+    (open_end trail low start (p + 1) k marks' aside' none (omega (arith, first)))
+    (λ x r. elim r [
+      | inl s ↦ (k, last, h, sym s)
+      | inr (j, b, c, f) ↦ (j, omega (arith, b, last), c, f)
+    ])
+    (chain_step clauses (IsOpen trail low start (k + 1) marks aside) (IsOpen trail low start k marks' aside') (IsLater trail k) reason (reverse numbers) l (omega (arith, some), omega (arith, some, within)) is.stands
+    (open_others trail low start k (get_or clauses (reason - 1) []) marks' aside' apart h is others)
+    (λ m open_one. open_rest trail low start k marks marks' aside aside' m more open_one)
+    (λ x (j, b, c, f) same. apart k j b c (same ∙ ap nat_abs (sym f)))
+    chain))
+
+-- where a trace ends
+pub chain_point : (clauses : List (List ℤ)) (trail : List ℤ) (low start k : ℕ) (marks : List Bool) (aside : List ℤ) (numbers : List ℕ) → AreUnmarked trail marks start k → Chain clauses (IsOpen trail low start (k + 1) marks aside) (IsLater trail k) (reverse numbers) → Chain clauses (IsLeft trail low k aside) (IsLater trail k) (reverse numbers)
+chain_point clauses trail low start k marks aside numbers none chain = Chain-more clauses (IsOpen trail low start (k + 1) marks aside) (IsLeft trail low k aside) (IsLater trail k) (IsLater trail k) (reverse numbers) (open_left trail low start k marks aside none) (λ l r. r) chain
+
+-- the hints of the clause that is learnt, whose variables aren't those that were resolved
+pub chain_leads : (clauses : List (List ℤ)) (trail : List ℤ) (low k : ℕ) (aside : List ℤ) (u : ℤ) (hints : List ℕ) → low ≡ 0 → AreApart trail → k < length trail → ((m : ℤ) → Contains aside m → IsFalseBefore trail k m) → get_or trail k (pos 0) ≡ neg_ℤ u
+    → Chain clauses (IsLeft trail low k aside) (IsLater trail k) hints → Leads clauses (map neg_ℤ (aside ++ u ∷ [])) hints
+unfolding Chain
+chain_leads clauses trail low k aside u hints none apart within below at chain =
+    let clause : List ℤ = aside ++ u ∷ [] in
+    chain (map neg_ℤ clause)
+    (λ m left. elim left [
+      | inl e ↦ Contains-map clause m (subst (Contains clause) (sym (neg_ℤ-neg_ℤ u) ∙ ap neg_ℤ (sym at) ∙ sym e) (Contains-push aside u))
+      | inr (inl put) ↦ Contains-map clause m (Contains-append_left aside (u ∷ []) m put)
+      | inr (inr (j, b, e)) ↦ absurd (omega (arith, b, none))
+    ])
+    (λ l (j, b, c, e) m h same.
+    let clash : (i : ℕ) → i ≤ k → get_or trail i (pos 0) ≡ neg_ℤ (neg_ℤ m) → ⊥ = λ i f g. apart i j (omega (arith, f, b)) c (ap nat_abs (g ∙ neg_ℤ-neg_ℤ m) ∙ same ∙ ap nat_abs (sym e)) in
+    elim (Contains-push_cases aside u (neg_ℤ m) (Contains-unmap clause m h)) [
+      | inl put ↦ (let there = below (neg_ℤ m) put in clash there.0 (omega (arith, there.1)) there.2)
+      | inr s ↦ clash k (omega arith) (at ∙ ap neg_ℤ s)
+    ])
+
+-- what made a literal true where nothing was decided
+root_cause : (b : Board) (k : ℕ) → IsBoard b → b.levels ≡ [] → k < length b.past.literals → (get_or b.past.reasons k 0 ≢ 0) × (get_or b.past.reasons k 0 - 1 < length b.clauses) × (IsReason b.past.literals k (get_or b.clauses (get_or b.past.reasons k 0 - 1) []))
+root_cause b k is none within =
+    let reason : ℕ = get_or b.past.reasons k 0 in
+    let cause = is.caused k within in
+    let some : reason ≢ 0 = λ z. (let decided = cause_zero b.clauses b.past.literals b.levels k reason cause z in absurd (omega (arith, decided.1, ap length none))) in
+    let told = cause_some b.clauses b.past.literals b.levels k reason cause some in
+    (some, told.0, told.1)
+
+-- a reason makes its literal true
+reason_unit : (trail : List ℤ) (k : ℕ) (reason : List ℤ) → AreApart trail → k < length trail → IsReason trail k reason → IsUnit (take k trail) reason (get_or trail k (pos 0))
+reason_unit trail k reason apart within is = record {
+  stands = is.stands;
+  unset = λ m h same. (let there = part_false trail k m (omega (arith, within)) h in apart there.0 k there.1 within (ap nat_abs there.2 ∙ same));
+  others = λ m c ne. false_part trail k m (omega (arith, within)) (is.others m c ne);
+}
+
+-- the hints of the empty clause from one place of the trail on
+root_from : (b : Board) (conflict n k : ℕ) → IsBoard b → IsRootConflict b conflict → k + n ≡ length b.past.literals → Leads b.clauses (take k b.past.literals) (drop k b.past.reasons ++ (conflict + 1) ∷ [])
+root_from b conflict zero k is root e =
+    let all : take k b.past.literals ≡ b.past.literals = take_all k b.past.literals (omega (arith, e)) in
+    let none : drop k b.past.reasons ≡ [] = drop_all k b.past.reasons (omega (arith, e, is.count)) in
+    let at : conflict + 1 - 1 ≡ conflict = omega arith in
+    let here : get_or b.clauses conflict [] ≡ clause_of b.clauses (conflict + 1) = ap (λ i. get_or b.clauses i []) (sym at) in
+    rw (all, none) ((omega arith, omega (arith, root.within)), (λ m h. root.false_ones m (subst (λ x. Contains x m) (sym here) h)))
+root_from b conflict (suc n) k is root e =
+    let trail = b.past.literals in
+    let within : k < length trail = omega (arith, e) in
+    let reason : ℕ = get_or b.past.reasons k 0 in
+    let l : ℤ = get_or trail k (pos 0) in
+    let hints : List ℕ = drop (suc k) b.past.reasons ++ (conflict + 1) ∷ [] in
+    let rest : Leads b.clauses (take (suc k) trail) hints = root_from b conflict n (suc k) is root (omega (arith, e)) in
+    let cause = root_cause b k is root.levels within in
+    let split : drop k b.past.reasons ≡ reason ∷ drop (suc k) b.past.reasons = drop-cons b.past.reasons k 0 (omega (arith, within, is.count)) in
+    rw split (leads_before b.clauses (take k trail) reason hints l (omega (arith, cause.0), omega (arith, cause.0, cause.1)) (reason_unit trail k (get_or b.clauses (reason - 1) []) is.apart within cause.2)
+    (subst (λ t. Leads b.clauses t hints) (take-suc trail k (pos 0) within) rest))
+
+-- the hints of the empty clause
+pub root_leads : (b : Board) (conflict : ℕ) (hints : List ℕ) → IsBoard b → IsRootConflict b conflict → hints ≡ b.past.reasons ++ (conflict + 1) ∷ [] → Leads b.clauses [] hints
+root_leads b conflict hints is root e = rw e (root_from b conflict (length b.past.literals) 0 is root (omega arith))
+
+-- a variable of the clauses is at most their greatest
+known_within : (n : ℕ) (clauses : List (List ℤ)) (v : ℕ) → AllWithin n clauses → HasVariable clauses v → v ≤ n
+known_within n clauses v within (clause, there, (m, stands, e)) = omega (arith, within clause there m stands, e)
+
+-- the step by which the clause of a point is learnt
+pub point_step : (b : Board) (low start k n : ℕ) (aside clause : List ℤ) (u : ℤ) (hints : List ℕ) → IsBoard b → IsPresent b low start → IsPoint b.clauses b.past.literals low start k aside → u ≡ neg_ℤ (get_or b.past.literals k (pos 0)) → clause ≡ aside ++ u ∷ [] → low ≡ 0 → AllWithin n b.clauses
+    → Chain b.clauses (IsLeft b.past.literals low k aside) (IsLater b.past.literals k) hints → IsStep b.clauses n (length b.clauses + 1) clause hints
+point_step b low start k n aside clause u hints is present point e same none within chain =
+    let trail = b.past.literals in
+    let at : get_or trail k (pos 0) ≡ neg_ℤ u = sym (neg_ℤ-neg_ℤ _) ∙ ap neg_ℤ (sym e) in
+    let var : nat_abs (get_or trail k (pos 0)) ≡ nat_abs u = ap nat_abs at ∙ nat_abs-neg_ℤ u in
+    let below : (m : ℤ) → Contains aside m → IsFalseBefore trail k m = λ m h. later_false trail start k m point.first (point.below m h) in
+    let over = point_over b low start k aside u is present point e in
+    rw same (record {
+      number_is = refl;
+      over = λ l h. (
+        (over l h).0,
+        elim (Contains-push_cases aside u l h) [
+          | inl put ↦ known_within n b.clauses (nat_abs l) within (point.known l put)
+          | inr s ↦ omega (arith, known_within n b.clauses (nat_abs (get_or trail k (pos 0))) within point.here, var, ap nat_abs s)
+        ],
+      );
+      apart = AreApart-push aside u point.apart (λ m h clash.
+          let there = below m h in
+          is.apart there.0 k there.1 point.within (ap nat_abs there.2 ∙ nat_abs-neg_ℤ m ∙ clash ∙ sym var));
+      leads = chain_leads b.clauses trail low k aside u hints none is.apart point.within below at chain;
+    })

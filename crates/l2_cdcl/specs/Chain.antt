@@ -1,0 +1,14 @@
+-- The hints of a clause that is learnt, while a conflict is traced back: reasons, and then the clause of the conflict.
+use Rattle.std.specs.Prelude.{◌≡◌, ℕ, ◌<◌, ℤ, pos, neg_ℤ, List, Contains, length, slice_index_or}
+use Rattle.l2_cnf.specs.Steps.{IsUnset, Leads}
+
+-- where these literals are false and those that were resolved have no value, the hints lead to a conflict
+unfoldable pub Chain : List (List ℤ) → (ℤ → Type 0) → (ℤ → Type 0) → List ℕ → Type 0
+Chain clauses literals resolved hints = (true_ones : List ℤ)
+    → ((m : ℤ) → literals m → Contains true_ones (neg_ℤ m))
+    → ((l : ℤ) → resolved l → IsUnset true_ones l)
+    → Leads clauses true_ones hints
+
+-- a literal became true behind this place
+abbrev pub IsLater : List ℤ → ℕ → ℤ → Type 0
+IsLater trail k l = (j : ℕ) × (k < j) × (j < length trail) × (slice_index_or trail j (pos 0) ≡ l)
