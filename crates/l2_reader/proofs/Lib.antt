@@ -1,2 +1,5 @@
 pub mod Parts
 pub mod Stepping
+pub mod Counting
+pub mod Rooms
+pub mod Refusals
