@@ -6,8 +6,9 @@ use Rattle.l2_syntax.specs.declared.token.Mark.TheVariants as mark
 use Rattle.l2_syntax.specs.declared.token.TokenKind.{TokenKind}
 use Rattle.l2_syntax.specs.declared.token.TokenKind.TheVariants as kind
 use Rattle.l2_grammar.specs.declared.states.Sort.{Sort}
+use Rattle.l2_grammar.specs.declared.states.Sort.TheVariants as sort
 use Rattle.l2_grammar.specs.Nesting.{opens}
-use Rattle.l2_grammar.specs.Trees.{Seen, Tree, begin, token, child, sort, state}
+use Rattle.l2_grammar.specs.Trees.{Seen, Tree, begin, token, child, sort as sort_of, state}
 use Rattle.l2_tree.specs.declared.operators.UnaryOperator.{UnaryOperator}
 use Rattle.l2_tree.specs.declared.operators.UnaryOperator.TheVariants as unary
 use Rattle.l2_tree.specs.declared.operators.UpdateOperator.{UpdateOperator}
@@ -60,7 +61,7 @@ closed r m = behind r (kind.Mark m) nowhere
 
 -- behind a construct of the sort that may stand there
 abbrev pub within : Tree → (Sort → Tree) → Tree
-within r f = child r (f (opens (sort r) (state r)))
+within r f = child r (f (opens (sort_of r) (state r)))
 
 -- a construct in parentheses
 abbrev pub bracketed : Tree → Place → (Sort → Tree) → Tree
@@ -274,6 +275,11 @@ abbrev mutual
 
 -- ---- statements and units
 
+-- a declaration by itself has a specifier, or it would be a `;` alone
+abbrev pub run_declaration : Sort → DeclarationTree → Tree
+run_declaration s (Declaration no_specifiers ds) = begin sort.Nowhere
+run_declaration s (Declaration (and_specifier xs x) ds) = declaration_onto (begin s) (Declaration (and_specifier xs x) ds)
+
 abbrev pub perhaps : Tree → Option ExprTree → Tree
 perhaps r None = r
 perhaps r (Some e) = within r (λ z. run_expr z e)
@@ -290,7 +296,7 @@ head_onto r p e = bracketed r p (λ z. run_expr z e)
 
 abbrev mutual
   pub run_stmt : Sort → StmtTree → Tree
-  run_stmt s (Declare d) = declaration_onto (begin s) d
+  run_stmt s (Declare d) = run_declaration s d
   run_stmt s (Block p ss) = closed (stmts_onto (mark_at (begin s) mark.OpenBrace p) ss) mark.CloseBrace
   run_stmt s (Evaluate e) = closed (run_expr s e) mark.Semicolon
   run_stmt s Empty = closed (begin s) mark.Semicolon
@@ -322,10 +328,14 @@ abbrev mutual
 
 abbrev pub run_external : Sort → ExternalTree → Tree
 run_external s Nothing = closed (begin s) mark.Semicolon
-run_external s (Global d) = declaration_onto (begin s) d
+run_external s (Global d) = run_declaration s d
 run_external s (Typedef p d) = declaration_onto (mark_at (begin s) mark.Typedef p) d
 run_external s (Function xs d p ss) = closed (stmts_onto (mark_at (within (specifiers_onto (begin s) xs) (λ z. run_declarator z d)) mark.OpenBrace p) ss) mark.CloseBrace
 
 abbrev pub externals_onto : Tree → List ExternalTree → Tree
 externals_onto r [] = r
 externals_onto r (x ∷ xs) = externals_onto (within r (λ z. run_external z x)) xs
+
+-- a whole text: its parts, and the token of its end
+abbrev pub run_unit : List ExternalTree → Tree
+run_unit xs = behind (externals_onto (begin sort.Unit) xs) kind.End nowhere
