@@ -1,5 +1,5 @@
 -- The tree of each value of the types in src/: the same without addresses.
-use Rattle.std.specs.Prelude.{ℕ, List, [], ◌∷◌, Option, None, Some, map}
+use Rattle.std.specs.Prelude.{List, [], ◌∷◌, Option, None, Some, map}
 use Rattle.l2_tree.specs.declared.expression.Expr as expr
 use Rattle.l2_tree.specs.declared.expression.Expr.{Expr, Row_of-Expr, end_of-Expr, more_of-Expr}
 use Rattle.l2_tree.specs.declared.expression.Specifier as specifier
