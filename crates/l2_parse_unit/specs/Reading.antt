@@ -6,6 +6,8 @@ use Rattle.l2_syntax.specs.declared.token.TokenKind.TheVariants as kind
 use Rattle.l2_syntax.specs.declared.token.Token.{Token}
 use Rattle.l2_syntax.specs.declared.refusal.Rule.TheVariants as rule
 use Rattle.l2_syntax.specs.declared.refusal.Refusal.{Refusal}
+use Rattle.l2_syntax.specs.declared.refusal.TextFault.{TextFault}
+use Rattle.l2_syntax.specs.declared.refusal.TextFault.TheVariants as fault
 use Rattle.l2_grammar.specs.Trees.{Seen}
 use Rattle.l2_grammar.specs.Law as grammar
 use Rattle.l2_grammar.specs.Law.{Begins, StopsBefore}
@@ -64,5 +66,20 @@ pub data IsRefused (r : Lexed) : Refusal → Type 0 where
   lexical : (f : Refusal) → r.stop ≡ Some f → Begins (kept r.list) → Shallow (kept r.list) [] → IsRefused r f
   ended : r.stop ≡ None → Stops r.list [] → IsRefused r (record { place = last_place start r.list; rule = rule.Syntax })
 
+-- what a fault of a text says, but for want of memory
+abbrev pub OnRefusal : TextFault → (Refusal → Type 0) → Type 0
+OnRefusal (fault.At f) holds = holds f
+OnRefusal fault.NoMemory holds = Unit {0}
+
 abbrev pub IsTextRefused : List ℕ → Refusal → Type 0
 IsTextRefused text f = IsRefused (tokens_of text) f
+
+-- ---- what holds of it
+
+-- tokens spell at most one unit
+abbrev pub UniqueUnitLaw : Type 0
+UniqueUnitLaw = (r : Lexed) (u v : UnitTree) → Spells r u → Spells r v → u ≡ v
+
+-- what is refused spells no unit
+abbrev pub RefusedLaw : Type 0
+RefusedLaw = (r : Lexed) (f : Refusal) (u : UnitTree) → IsRefused r f → Spells r u → ⊥

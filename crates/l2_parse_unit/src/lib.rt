@@ -1,6 +1,8 @@
 //! Reads the tokens of a text to the unit that they spell, or to where reading stops.
 #![tactic(auto)]
 
-mod parse;
+mod copies;
+mod refusals;
+mod laws;
 
-pub use parse::parse;
+pub use laws::refused_law;
