@@ -3,6 +3,7 @@
 #![tactic(auto)]
 
 mod expression;
+mod laws;
 mod operators;
 mod statement;
 mod unit;
@@ -11,6 +12,7 @@ pub use expression::{
     Core, Declaration, Declarator, Declared, Enumerator, Expr, Initialiser, Parameter, Pointer,
     Specifier, Suffix, Tag,
 };
+pub use laws::{unique_run_law, unique_tree_law};
 pub use operators::{
     AssignmentOperator, BinaryOperator, MemberOperator, SpecifierWord, UnaryOperator,
     UpdateOperator,

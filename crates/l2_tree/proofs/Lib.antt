@@ -1,0 +1,5 @@
+pub mod Inverse
+pub mod InverseSteps
+pub mod InverseFirsts
+pub mod InverseExpressions
+pub mod InverseStatements
