@@ -1,67 +1,45 @@
-use crate::place::Place;
-use crate::token::Name;
 use l2_bits::List;
-
-/// A unary operator.
-#[derive(Clone, Copy, Debug, PartialEq, Eq)]
-pub enum UnaryOperator {
-    Negate,
-    Not,
-}
-
-/// A binary operator.
-#[derive(Clone, Copy, Debug, PartialEq, Eq)]
-pub enum BinaryOperator {
-    Multiply,
-    Add,
-    Subtract,
-    Less,
-    LessEqual,
-    Greater,
-    GreaterEqual,
-    Equal,
-    NotEqual,
-}
+use l2_syntax::{BinaryOperator, Name, Place, UnaryOperator};
 
 /// An expression as it is spelt, parentheses and all. Words carry their number and their place.
 #[derive(Drop)]
-pub enum Expr {
+pub enum SmallExpr {
     Name(u32, Place),
     Number(i128),
     /// `__VERIFIER_nondet_int()`, with the place of the word.
     Choice(Place),
-    Parenthesised(Box<Expr>),
-    Unary(UnaryOperator, Box<Expr>),
-    Binary(BinaryOperator, Box<Expr>, Box<Expr>),
+    Parenthesised(Box<SmallExpr>),
+    Unary(UnaryOperator, Box<SmallExpr>),
+    Binary(BinaryOperator, Box<SmallExpr>, Box<SmallExpr>),
 }
 
 /// A statement or a declaration as it is spelt. A loop carries the place of its keyword.
 #[derive(Drop)]
-pub enum Stmt {
+pub enum SmallStmt {
     /// `{ items }`.
-    Block(Vec<Stmt>),
+    Block(Vec<SmallStmt>),
     /// `int NAME ;`.
     Declare(u32, Place),
     /// `int NAME = e ;`.
-    Initialise(u32, Place, Expr),
+    Initialise(u32, Place, SmallExpr),
     /// `NAME = e ;`.
-    Assign(u32, Place, Expr),
+    Assign(u32, Place, SmallExpr),
     /// `if ( e ) s`.
-    If(Expr, Box<Stmt>),
+    If(SmallExpr, Box<SmallStmt>),
     /// `if ( e ) s else t`.
-    IfElse(Expr, Box<Stmt>, Box<Stmt>),
+    IfElse(SmallExpr, Box<SmallStmt>, Box<SmallStmt>),
     /// `while ( e ) s`.
-    While(Place, Expr, Box<Stmt>),
+    While(Place, SmallExpr, Box<SmallStmt>),
     /// `assert ( e ) ;`, with the place of the word.
-    Assert(Place, Expr),
+    Assert(Place, SmallExpr),
     /// `return e ;`.
-    Return(Expr),
+    Return(SmallExpr),
 }
 
 /// A text as it is spelt: the place of the name `main`, its body's items, and the names that words are numbered by.
 #[derive(Drop)]
-pub struct Unit {
+pub struct SmallUnit {
     pub main: Place,
-    pub items: Vec<Stmt>,
+    pub items: Vec<SmallStmt>,
     pub names: List<Name>,
 }
