@@ -1,6 +1,6 @@
 -- The small form of C: which trees of the whole grammar are of it, and what the tree of such a text is. Each line is a form; every
 -- other tree has none.
-use Rattle.std.specs.Prelude.{ℕ, Bool, true, false, ◌&&◌, if◌then◌else◌, List, [], ◌∷◌, codes, Option, Some, None, option_map}
+use Rattle.std.specs.Prelude.{ℕ, Bool, true, false, ◌&&◌, if◌then◌else◌, List, [], ◌∷◌, Option, Some, None, option_map}
 use Rattle.l2_syntax.specs.declared.place.Place.{Place}
 use Rattle.l2_syntax.specs.declared.token.Name.{Name as NameText}
 use Rattle.l2_syntax.specs.declared.token.Scalar.{Scalar}
@@ -18,7 +18,7 @@ use Rattle.l2_tree.specs.declared.operators.SpecifierWord.TheVariants as word
 use Rattle.l2_tree.specs.Trees.{ExprTree, Name, Number, Parenthesised, Unary, Binary, Call, Assign, ExprTrees, no_exprs, and_expr, SpecifierTrees, Word, no_specifiers, and_specifier, ParameterTrees, Bare, no_parameters, and_parameter, DeclaratorTree, Declarator, Named, SuffixTrees, Parameters, no_suffixes, and_suffix, Expression, DeclaredTree, Uninitialised, Initialised, DeclaredTrees, no_declarators, and_declarator, DeclarationTree, Declaration, StmtTree, Declare, Block, Evaluate, If, IfElse, While, ReturnValue, StmtTrees, no_stmts, and_stmt, Branch, no_branches, and_branch, ExternalTree, Function, UnitTree}
 use Rattle.l2_small.specs.SmallTrees as small
 use Rattle.l2_small.specs.SmallTrees.{SmallExprTree, SmallStmtTree, SmallStmtTrees, SmallUnitTree}
-use Rattle.l2_small.specs.Words.{is_spelt, is_variable}
+use Rattle.l2_small.specs.Words.{is_main, is_assert, is_nondet_int, is_variable}
 
 -- goes on where there is something
 abbrev pub and_then : {A B : Type 0} → Option A → (A → Option B) → Option B
@@ -50,7 +50,7 @@ is_int_constant y = false
 
 -- `__VERIFIER_nondet_int ( )`
 abbrev pub small_choice : List NameText → ExprTree → ExprTrees → Option SmallExprTree
-small_choice names (Name n p) no_exprs = if is_spelt names n (codes "__VERIFIER_nondet_int") then Some (small.Choice p) else None
+small_choice names (Name n p) no_exprs = if is_nondet_int names n then Some (small.Choice p) else None
 small_choice names f es = None
 
 abbrev pub small_expr : List NameText → ExprTree → Option SmallExprTree
@@ -92,7 +92,7 @@ abbrev pub small_effect : List NameText → ExprTree → Option SmallStmtTree
 small_effect names (Assign (Name n p) assignment.Assign q e) =
     if is_variable names n then option_map (small.Assign n p) (small_expr names e) else None
 small_effect names (Call (Name n p) q (and_expr no_exprs e)) =
-    if is_spelt names n (codes "assert") then option_map (small.Assert p) (small_expr names e) else None
+    if is_assert names n then option_map (small.Assert p) (small_expr names e) else None
 small_effect names e = None
 
 abbrev mutual
@@ -125,7 +125,7 @@ is_without_parameters xs = false
 
 -- `main ( void )`: where the name stands
 abbrev pub main_place : List NameText → DeclaratorTree → Option Place
-main_place names (Declarator [] (Named n p) xs) = if is_spelt names n (codes "main") && is_without_parameters xs then Some p else None
+main_place names (Declarator [] (Named n p) xs) = if is_main names n && is_without_parameters xs then Some p else None
 main_place names d = None
 
 -- `int main ( void ) { items }`

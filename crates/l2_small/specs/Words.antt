@@ -20,8 +20,17 @@ abbrev pub name_is : Option Name → List ℕ → Bool
 name_is None w = false
 name_is (Some name) w = bytes_eq name.bytes w
 
-unfoldable pub is_spelt : List Name → ℕ → List ℕ → Bool
+abbrev pub is_spelt : List Name → ℕ → List ℕ → Bool
 is_spelt names n w = name_is (slice_get names n) w
+
+unfoldable pub is_main : List Name → ℕ → Bool
+is_main names n = is_spelt names n (codes "main")
+
+unfoldable pub is_assert : List Name → ℕ → Bool
+is_assert names n = is_spelt names n (codes "assert")
+
+unfoldable pub is_nondet_int : List Name → ℕ → Bool
+is_nondet_int names n = is_spelt names n (codes "__VERIFIER_nondet_int")
 
 -- whether a variable may have this name
 abbrev pub is_free : Option Name → Bool

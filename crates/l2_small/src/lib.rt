@@ -2,6 +2,9 @@
 #![tactic(auto)]
 
 mod error;
+mod expressions;
+mod make;
+mod operators;
 mod tree;
 mod words;
 

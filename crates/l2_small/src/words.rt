@@ -1,6 +1,6 @@
 // How words are spelt.
 ghost use Rattle.std.specs.Prelude.{◌≡◌};
-ghost use Rattle.l2_small.specs.Words.{is_built_in, is_spelt, is_variable};
+ghost use Rattle.l2_small.specs.Words.{is_built_in, is_spelt, is_variable, is_main, is_assert, is_nondet_int};
 
 use l2_syntax::Name;
 
@@ -34,14 +34,34 @@ fn is_built_in(word: &[u8]) -> bool
 }
 
 /// Whether the word with this number is spelt so.
-#[tactic(auto, unfolding(crate::specs::Words::is_spelt))]
-pub fn is_spelt(names: &[Name], word: u32, text: &[u8]) -> bool
+fn is_spelt(names: &[Name], word: u32, text: &[u8]) -> bool
     ensures { result ≡ is_spelt names.now word text.now }
 {
     match names.get(word as usize) {
         Some(name) => name.bytes.as_slice() == text,
         None => false,
     }
+}
+
+#[tactic(auto, unfolding(crate::specs::Words::is_main))]
+pub fn is_main(names: &[Name], word: u32) -> bool
+    ensures { result ≡ is_main names.now word }
+{
+    is_spelt(names, word, b"main".as_slice())
+}
+
+#[tactic(auto, unfolding(crate::specs::Words::is_assert))]
+pub fn is_assert(names: &[Name], word: u32) -> bool
+    ensures { result ≡ is_assert names.now word }
+{
+    is_spelt(names, word, b"assert".as_slice())
+}
+
+#[tactic(auto, unfolding(crate::specs::Words::is_nondet_int))]
+pub fn is_nondet_int(names: &[Name], word: u32) -> bool
+    ensures { result ≡ is_nondet_int names.now word }
+{
+    is_spelt(names, word, b"__VERIFIER_nondet_int".as_slice())
 }
 
 /// Whether a variable may have the name with this number.
