@@ -13,11 +13,15 @@ use Rattle.l2_tree.specs.declared.operators.UnaryOperator.{UnaryOperator}
 use Rattle.l2_tree.specs.declared.operators.UnaryOperator.TheVariants as unary
 use Rattle.l2_tree.specs.declared.operators.BinaryOperator.{BinaryOperator}
 use Rattle.l2_tree.specs.declared.operators.BinaryOperator.TheVariants as binary
+use Rattle.l2_tree.specs.declared.operators.AssignmentOperator.{AssignmentOperator}
 use Rattle.l2_tree.specs.declared.operators.AssignmentOperator.TheVariants as assignment
+use Rattle.l2_tree.specs.declared.operators.SpecifierWord.{SpecifierWord}
 use Rattle.l2_tree.specs.declared.operators.SpecifierWord.TheVariants as word
-use Rattle.l2_tree.specs.Trees.{ExprTree, Name, Number, Parenthesised, Unary, Binary, Call, Assign, ExprTrees, no_exprs, and_expr, SpecifierTrees, Word, no_specifiers, and_specifier, ParameterTrees, Bare, no_parameters, and_parameter, DeclaratorTree, Declarator, Named, SuffixTrees, Parameters, no_suffixes, and_suffix, Expression, DeclaredTree, Uninitialised, Initialised, DeclaredTrees, no_declarators, and_declarator, DeclarationTree, Declaration, StmtTree, Declare, Block, Evaluate, If, IfElse, While, ReturnValue, StmtTrees, no_stmts, and_stmt, Branch, no_branches, and_branch, ExternalTree, Function, UnitTree}
+use Rattle.l2_tree.specs.Trees as specifier
+use Rattle.l2_tree.specs.Trees.{ExprTree, Name, Number, Parenthesised, Unary, Binary, Call, Assign, ExprTrees, no_exprs, and_expr, SpecifierTrees, no_specifiers, and_specifier, ParameterTrees, Bare, no_parameters, and_parameter, DeclaratorTree, Declarator, Named, SuffixTrees, Parameters, no_suffixes, and_suffix, InitialiserTree, Expression, DeclaredTree, Uninitialised, Initialised, DeclaredTrees, no_declarators, and_declarator, DeclarationTree, Declaration, StmtTree, Declare, Block, Evaluate, If, IfElse, While, ReturnValue, StmtTrees, no_stmts, and_stmt, Branch, no_branches, and_branch, ExternalTree, Function, UnitTree}
 use Rattle.l2_small.specs.SmallTrees as small
 use Rattle.l2_small.specs.SmallTrees.{SmallExprTree, SmallStmtTree, SmallStmtTrees, SmallUnitTree}
+use Rattle.l2_small.specs.declared.words.Word.{Word}
 use Rattle.l2_small.specs.Words.{is_main, is_assert, is_nondet_int, is_variable}
 
 -- goes on where there is something
@@ -48,15 +52,20 @@ abbrev pub is_int_constant : Scalar → Bool
 is_int_constant scalar.Int = true
 is_int_constant y = false
 
+-- the word that an expression is, if it is a name
+abbrev pub word_of : ExprTree → Option Word
+word_of (Name n p) = Some (record { name = n; place = p })
+word_of e = None
+
 -- `__VERIFIER_nondet_int ( )`
-abbrev pub small_choice : List NameText → ExprTree → ExprTrees → Option SmallExprTree
-small_choice names (Name n p) no_exprs = if is_nondet_int names n then Some (small.Choice p) else None
-small_choice names f es = None
+abbrev pub small_choice : List NameText → Option Word → ExprTrees → Option SmallExprTree
+small_choice names (Some w) no_exprs = if is_nondet_int names w.name then Some (small.Choice w.place) else None
+small_choice names w es = None
 
 abbrev pub small_expr : List NameText → ExprTree → Option SmallExprTree
 small_expr names (Name n p) = if is_variable names n then Some (small.Name n p) else None
 small_expr names (Number v y p) = if is_int_constant y then Some (small.Number v) else None
-small_expr names (Call f p es) = small_choice names f es
+small_expr names (Call f p es) = small_choice names (word_of f) es
 small_expr names (Parenthesised p e) = option_map small.Parenthesised (small_expr names e)
 small_expr names (Unary o p e) = and_then (small_unary o) (λ s. option_map (small.Unary s) (small_expr names e))
 small_expr names (Binary a o p b) = and_then (small_binary o) (λ s. and_then (small_expr names a) (λ x. option_map (small.Binary s x) (small_expr names b)))
@@ -64,35 +73,58 @@ small_expr names e = None
 
 -- ---- declarations
 
-abbrev pub is_int : SpecifierTrees → Bool
-is_int (and_specifier no_specifiers (Word word.Int p)) = true
-is_int xs = false
+-- the word that specifiers are, if they are one word alone
+abbrev pub word_alone : SpecifierTrees → Option SpecifierWord
+word_alone (and_specifier no_specifiers (specifier.Word w p)) = Some w
+word_alone xs = None
 
-abbrev pub is_void : SpecifierTrees → Bool
-is_void (and_specifier no_specifiers (Word word.Void p)) = true
-is_void xs = false
+abbrev pub is_int : Option SpecifierWord → Bool
+is_int (Some word.Int) = true
+is_int w = false
 
--- `NAME` and `NAME = e`
+abbrev pub is_void : Option SpecifierWord → Bool
+is_void (Some word.Void) = true
+is_void w = false
+
+-- the name that a declarator is, if it is a name alone
+abbrev pub name_alone : DeclaratorTree → Option Word
+name_alone (Declarator [] (Named n p) no_suffixes) = Some (record { name = n; place = p })
+name_alone d = None
+
+-- `NAME`
+abbrev pub small_declare : List NameText → Option Word → Option SmallStmtTree
+small_declare names (Some w) = if is_variable names w.name then Some (small.Declare w.name w.place) else None
+small_declare names None = None
+
+-- `NAME = e`
+abbrev pub small_initialise : List NameText → Option Word → InitialiserTree → Option SmallStmtTree
+small_initialise names (Some w) (Expression e) = if is_variable names w.name then option_map (small.Initialise w.name w.place) (small_expr names e) else None
+small_initialise names w i = None
+
 abbrev pub small_declared : List NameText → DeclaredTree → Option SmallStmtTree
-small_declared names (Uninitialised (Declarator [] (Named n p) no_suffixes)) =
-    if is_variable names n then Some (small.Declare n p) else None
-small_declared names (Initialised (Declarator [] (Named n p) no_suffixes) q (Expression e)) =
-    if is_variable names n then option_map (small.Initialise n p) (small_expr names e) else None
-small_declared names d = None
+small_declared names (Uninitialised d) = small_declare names (name_alone d)
+small_declared names (Initialised d p i) = small_initialise names (name_alone d) i
 
 -- `int NAME ;` and `int NAME = e ;`
 abbrev pub small_declaration : List NameText → DeclarationTree → Option SmallStmtTree
-small_declaration names (Declaration xs (and_declarator no_declarators d)) = if is_int xs then small_declared names d else None
+small_declaration names (Declaration xs (and_declarator no_declarators d)) = if is_int (word_alone xs) then small_declared names d else None
 small_declaration names d = None
 
 -- ---- statements
 
--- `NAME = e ;` and `assert ( e ) ;`
+-- `NAME = e ;`
+abbrev pub small_assign : List NameText → Option Word → AssignmentOperator → ExprTree → Option SmallStmtTree
+small_assign names (Some w) assignment.Assign e = if is_variable names w.name then option_map (small.Assign w.name w.place) (small_expr names e) else None
+small_assign names w o e = None
+
+-- `assert ( e ) ;`
+abbrev pub small_assert : List NameText → Option Word → ExprTrees → Option SmallStmtTree
+small_assert names (Some w) (and_expr no_exprs e) = if is_assert names w.name then option_map (small.Assert w.place) (small_expr names e) else None
+small_assert names w es = None
+
 abbrev pub small_effect : List NameText → ExprTree → Option SmallStmtTree
-small_effect names (Assign (Name n p) assignment.Assign q e) =
-    if is_variable names n then option_map (small.Assign n p) (small_expr names e) else None
-small_effect names (Call (Name n p) q (and_expr no_exprs e)) =
-    if is_assert names n then option_map (small.Assert p) (small_expr names e) else None
+small_effect names (Assign a o p e) = small_assign names (word_of a) o e
+small_effect names (Call f p es) = small_assert names (word_of f) es
 small_effect names e = None
 
 abbrev mutual
@@ -118,20 +150,28 @@ abbrev mutual
 
 -- ---- units
 
+-- `void`
+abbrev pub is_nothing : ParameterTrees → Bool
+is_nothing (and_parameter no_parameters (Bare xs)) = is_void (word_alone xs)
+is_nothing ps = false
+
 -- `( void )`
-abbrev pub is_without_parameters : SuffixTrees → Bool
-is_without_parameters (and_suffix no_suffixes (Parameters p (and_parameter no_parameters (Bare xs)))) = is_void xs
-is_without_parameters xs = false
+abbrev pub takes_nothing : SuffixTrees → Bool
+takes_nothing (and_suffix no_suffixes (Parameters p ps)) = is_nothing ps
+takes_nothing xs = false
 
 -- `main ( void )`: where the name stands
 abbrev pub main_place : List NameText → DeclaratorTree → Option Place
-main_place names (Declarator [] (Named n p) xs) = if is_main names n && is_without_parameters xs then Some p else None
+main_place names (Declarator [] (Named n p) xs) = if is_main names n && takes_nothing xs then Some p else None
 main_place names d = None
+
+abbrev pub unit_with : List NameText → Place → SmallStmtTrees → SmallUnitTree
+unit_with names p items = record { main = p; items = items; names = names }
 
 -- `int main ( void ) { items }`
 abbrev pub small_external : List NameText → ExternalTree → Option SmallUnitTree
 small_external names (Function xs d p items) =
-    if is_int xs then and_then (main_place names d) (λ q. option_map (λ all. record { main = q; items = all; names = names }) (small_stmts names items)) else None
+    if is_int (word_alone xs) then and_then (main_place names d) (λ q. option_map (unit_with names q) (small_stmts names items)) else None
 small_external names x = None
 
 abbrev pub small_externals : List NameText → List ExternalTree → Option SmallUnitTree

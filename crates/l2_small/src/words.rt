@@ -2,7 +2,14 @@
 ghost use Rattle.std.specs.Prelude.{◌≡◌};
 ghost use Rattle.l2_small.specs.Words.{is_built_in, is_spelt, is_variable, is_main, is_assert, is_nondet_int};
 
-use l2_syntax::Name;
+use l2_syntax::{Name, Place};
+
+/// A word, by its number among the names of the text, and where it stands.
+#[derive(Clone, Copy, Debug, PartialEq, Eq)]
+pub struct Word {
+    pub name: u32,
+    pub place: Place,
+}
 
 const BUILT_IN: [&[u8]; 19] = [
     b"assert",
