@@ -1,6 +1,7 @@
 //! The small form of C: which texts of the whole grammar are of it, and the tree of such a text.
 #![tactic(auto)]
 
+mod declarations;
 mod error;
 mod expressions;
 mod make;
