@@ -5,4 +5,4 @@ mod copies;
 mod refusals;
 mod laws;
 
-pub use laws::refused_law;
+pub use laws::{refused_law, unique_unit_law};

@@ -1,8 +1,3 @@
-pub mod Fed
-pub mod Kept
-pub mod Reading
-pub mod Rows
+pub mod Lists
+pub mod SmallTrees
 pub mod Steps
-pub mod Counts
-pub mod Spelling
-pub mod CountLoops
