@@ -16,9 +16,9 @@ use Rattle.l2_tree.specs.declared.expression.Expr.{Expr}
 use Rattle.l2_tree.specs.declared.statement.Stmt.{Stmt}
 use Rattle.l2_tree.specs.declared.statement.Branch.{Branch}
 use Rattle.l2_tree.specs.declared.statement.First.{First}
-use Rattle.l2_tree.specs.Trees.{StmtTree, no_stmts, BranchTrees, no_branches}
+use Rattle.l2_tree.specs.Trees.{StmtTree, no_stmts, BranchTrees, no_branches, and_branch}
 use Rattle.l2_tree.specs.Units.{expr_tree, stmt_tree, branch_tree, first_tree, perhaps_tree, stmts_onto as stmt_trees, branches_onto as branch_trees}
-use Rattle.l2_tree.specs.Spelling.{plain, mark_at, behind, closed, within, run_expr, run_stmt, has_branches, else_if, perhaps, first_onto, head_onto, stmts_onto, branch_onto, branches_onto}
+use Rattle.l2_tree.specs.Spelling.{plain, mark_at, behind, closed, within, run_expr, run_stmt, has_branches, else_if, perhaps, first_onto, head_onto, stmts_onto, branches_onto}
 use Rattle.l2_statement_forms.specs.declared.form.Chain.{Chain}
 use Rattle.l2_statement_forms.specs.declared.form.HeadWord.{HeadWord}
 use Rattle.l2_statement_forms.specs.declared.form.HeadWord.TheVariants as head_word
@@ -73,8 +73,11 @@ behind_branches s bs = else_if (has_branches (branch_trees no_branches bs)) (bra
 abbrev pub if_tree : Sort → List Branch → Place → Place → Tree
 if_tree s bs p q = mark_at (mark_at (behind_branches s bs) mark.If p) mark.OpenParenthesis q
 
+abbrev pub chain_branches : Chain → BranchTrees
+chain_branches c = and_branch (branch_trees no_branches c.earlier.items) (branch_tree c.last)
+
 abbrev pub chain_tree : Sort → Chain → Tree
-chain_tree s c = branch_onto (behind_branches s c.earlier.items) (branch_tree c.last)
+chain_tree s c = branches_onto (begin s) (chain_branches c)
 
 abbrev pub head_mark : HeadWord → Mark
 head_mark head_word.While = mark.While
