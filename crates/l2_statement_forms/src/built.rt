@@ -1,7 +1,7 @@
 // Statements from their parts.
 ghost use Rattle.std.specs.Prelude.{◌≡◌, IfOk, IfErr};
-ghost use Rattle.l2_tree.specs.Trees.{no_stmts, no_branches, and_branch, Block, If, IfElse};
-ghost use Rattle.l2_tree.specs.Units.{stmt_tree, stmts_onto, branch_tree, branches_onto};
+ghost use Rattle.l2_tree.specs.Trees.{no_stmts, and_stmt, no_branches, Block, If, IfElse};
+ghost use Rattle.l2_tree.specs.Units.{stmt_tree, stmts_onto, branches_onto};
 ghost use Rattle.l2_statement_forms.specs.Forms.{chain_branches};
 
 use crate::error::FormError;
@@ -18,6 +18,17 @@ pub fn whole(chain: Chain) -> Result<Vec<Branch>, FormError>
     let Chain { mut earlier, last } = chain;
     earlier.push(last)?;
     Ok(earlier)
+}
+
+/// A block's items with one more.
+#[tactic(auto, using(l2_tree::proofs::Statements::statements))]
+pub fn pushed(items: Vec<Stmt>, item: Stmt) -> Result<Vec<Stmt>, FormError>
+    ensures items { IfOk result (λ v. stmts_onto no_stmts v.items ≡ and_stmt (stmts_onto no_stmts items.items) (stmt_tree item)) }
+    ensures err { IfErr result (λ f. f ≡ FormError.NoMemory) }
+{
+    let mut items = items;
+    items.push(item)?;
+    Ok(items)
 }
 
 #[tactic(auto, using(l2_tree::proofs::Statements::statements))]

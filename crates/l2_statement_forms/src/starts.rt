@@ -1,13 +1,12 @@
 // A statement's first token, and what is known of one whose first word was read as an expression's.
-ghost use Rattle.std.specs.Prelude.{◌≡◌, true, ◌&&◌};
-ghost use Rattle.l2_syntax.specs.declared.token.TokenKind.{TokenKind};
-ghost use Rattle.l2_grammar.specs.Networks.{on_token};
+ghost use Rattle.std.specs.Prelude.{◌≡◌, true};
+ghost use Rattle.l2_grammar.specs.Networks.{on_token, begun_item};
 ghost use Rattle.l2_grammar.specs.Nesting.{is_item};
 ghost use Rattle.l2_grammar.specs.Reader.{takes};
 ghost use Rattle.l2_grammar.specs.Trees.{begin as begun, token as then_token};
 ghost use Rattle.l2_tree.specs.Spelling.{plain, closed, behind, run_expr};
 ghost use Rattle.l2_tree.specs.Units.{expr_tree};
-ghost use Rattle.l2_statement_forms.specs.Forms.{state_of, tree_of, begins_statement};
+ghost use Rattle.l2_statement_forms.specs.Forms.{state_of, tree_of, behind_token, begins_statement};
 
 use crate::form::{Ending, Head, HeadWord, StatementForm, SwitchLabel};
 use l2_grammar::Sort;
@@ -21,12 +20,7 @@ pub fn begins_statement(kind: TokenKind) -> bool
 {
     match kind {
         TokenKind::Mark(mark) => match mark {
-            Mark::OpenBrace
-            | Mark::If
-            | Mark::While
-            | Mark::Switch
-            | Mark::Do
-            | Mark::For => true,
+            Mark::OpenBrace | Mark::If | Mark::While | Mark::Switch | Mark::Do | Mark::For => true,
             Mark::Case
             | Mark::Default
             | Mark::Break
@@ -39,8 +33,36 @@ pub fn begins_statement(kind: TokenKind) -> bool
     }
 }
 
+/// The form behind such a token.
+fn begun_with(alloc: Global, sort: Sort, token: Token) -> StatementForm
+    requires begins { begins_statement token.kind ≡ true }
+    ensures state { state_of result ≡ begun_item token.kind }
+    ensures tree { tree_of sort result ≡ behind_token (begun sort) token }
+{
+    let _ = sort;
+    let place = token.place;
+    match token.kind {
+        TokenKind::Mark(mark) => match mark {
+            Mark::OpenBrace => StatementForm::Block(place, Vec::new(alloc)),
+            Mark::If => StatementForm::IfOpen(Vec::new(alloc), place),
+            Mark::While => StatementForm::HeadOpen(HeadWord::While, place),
+            Mark::Switch => StatementForm::HeadOpen(HeadWord::Switch, place),
+            Mark::Do => StatementForm::DoBody(place),
+            Mark::For => StatementForm::ForOpen(place),
+            Mark::Case => StatementForm::CaseValue(place),
+            Mark::Default => StatementForm::Colon(SwitchLabel::Default(place)),
+            Mark::Break => StatementForm::Semicolon(Ending::Break(place)),
+            Mark::Continue => StatementForm::Semicolon(Ending::Continue(place)),
+            Mark::Return => StatementForm::Returning(place),
+            Mark::Semicolon => StatementForm::Statement(true, Stmt::Empty),
+            _ => unreachable!(),
+        },
+        _ => unreachable!(),
+    }
+}
+
 /// A statement behind its first token.
-#[tactic(auto, unfolding(l2_grammar::specs::Networks::on_token, l2_grammar::specs::Nesting::stands))]
+#[tactic(auto, using(crate::proofs::Beginning::item_begins))]
 pub fn begin(alloc: Global, sort: Sort, token: Token) -> StatementForm
     requires item { is_item sort ≡ true }
     requires begins { begins_statement token.kind ≡ true }
@@ -48,24 +70,7 @@ pub fn begin(alloc: Global, sort: Sort, token: Token) -> StatementForm
     ensures state { state_of result ≡ on_token sort State.Fresh token.kind }
     ensures tree { tree_of sort result ≡ then_token (begun sort) (plain (record { kind = token.kind; at = token.place })) }
 {
-    match token.kind {
-        TokenKind::Mark(mark) => match mark {
-            Mark::OpenBrace => StatementForm::Block(token.place, Vec::new(alloc)),
-            Mark::If => StatementForm::IfOpen(Vec::new(alloc), token.place),
-            Mark::While => StatementForm::HeadOpen(HeadWord::While, token.place),
-            Mark::Switch => StatementForm::HeadOpen(HeadWord::Switch, token.place),
-            Mark::Do => StatementForm::DoBody(token.place),
-            Mark::For => StatementForm::ForOpen(token.place),
-            Mark::Case => StatementForm::CaseValue(token.place),
-            Mark::Default => StatementForm::Colon(SwitchLabel::Default(token.place)),
-            Mark::Break => StatementForm::Semicolon(Ending::Break(token.place)),
-            Mark::Continue => StatementForm::Semicolon(Ending::Continue(token.place)),
-            Mark::Return => StatementForm::Returning(token.place),
-            Mark::Semicolon => StatementForm::Statement(true, Stmt::Empty),
-            _ => unreachable!(),
-        },
-        _ => unreachable!(),
-    }
+    begun_with(alloc, sort, token)
 }
 
 /// The statement of an expression, behind its `;`.
