@@ -1,5 +1,6 @@
 // A statement's first token, and what is known of one whose first word was read as an expression's.
 ghost use Rattle.std.specs.Prelude.{◌≡◌, true};
+ghost use Rattle.l2_grammar.specs.declared.states.State.{State};
 ghost use Rattle.l2_grammar.specs.Networks.{on_token, begun_item};
 ghost use Rattle.l2_grammar.specs.Nesting.{is_item};
 ghost use Rattle.l2_grammar.specs.Reader.{takes};
