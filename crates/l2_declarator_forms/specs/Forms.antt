@@ -2,7 +2,9 @@
 use Rattle.std.specs.Prelude.{List, Bool, true, false}
 use Rattle.l2_syntax.specs.declared.place.Place.{Place}
 use Rattle.l2_syntax.specs.declared.token.Mark.TheVariants as mark
-use Rattle.l2_grammar.specs.States.{Sort, State, stars, stars_const, group, group_close, direct, size, size_close, parameters, parameters_more, parameters_next}
+use Rattle.l2_grammar.specs.declared.states.Sort.{Sort}
+use Rattle.l2_grammar.specs.declared.states.State.{State}
+use Rattle.l2_grammar.specs.declared.states.State.TheVariants.{Stars as stars, StarsConst as stars_const, Group as group, GroupClose as group_close, Direct as direct, Size as size, SizeClose as size_close, Parameters as parameters, ParametersMore as parameters_more, ParametersNext as parameters_next}
 use Rattle.l2_grammar.specs.Trees.{Tree, begin}
 use Rattle.l2_tree.specs.declared.expression.Declarator.{Declarator}
 use Rattle.l2_tree.specs.declared.expression.Parameter.{Parameter}

@@ -12,7 +12,9 @@ pub enum FormError {
 }
 
 impl From<AllocError> for FormError {
-    ghost from_gives = { λ _ e. e ≡ FormError.NoMemory };
+    ghost use Rattle.l2_declarator_forms.specs.declared.error.FormError.TheVariants.{NoMemory};
+
+    ghost from_gives = { λ _ e. e ≡ NoMemory };
 
     fn from(_e: AllocError) -> FormError {
         FormError::NoMemory
@@ -20,7 +22,9 @@ impl From<AllocError> for FormError {
 }
 
 impl<T: Drop> From<AllocFailed<T>> for FormError {
-    ghost from_gives = { λ _ e. e ≡ FormError.NoMemory };
+    ghost use Rattle.l2_declarator_forms.specs.declared.error.FormError.TheVariants.{NoMemory};
+
+    ghost from_gives = { λ _ e. e ≡ NoMemory };
 
     fn from(_e: AllocFailed<T>) -> FormError {
         FormError::NoMemory

@@ -23,24 +23,7 @@ pub enum DeclaratorForm {
     /// Behind a `(` at this place: a parameter or `)` comes.
     Parameters(bool, Shape, Declarator, Place),
     /// `,` or `)` comes: whether all parameters have names if it is `)` and if it is `,`, those before the last, and the last.
-    ParametersMore(
-        bool,
-        Shape,
-        bool,
-        bool,
-        Declarator,
-        Place,
-        Vec<Parameter>,
-        Parameter,
-    ),
+    ParametersMore(bool, Shape, bool, bool, Declarator, Place, Vec<Parameter>, Parameter),
     /// Behind a `,`.
-    ParametersNext(
-        bool,
-        Shape,
-        bool,
-        Declarator,
-        Place,
-        Vec<Parameter>,
-        Parameter,
-    ),
+    ParametersNext(bool, Shape, bool, Declarator, Place, Vec<Parameter>, Parameter),
 }

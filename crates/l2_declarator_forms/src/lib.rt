@@ -4,6 +4,7 @@
 mod children;
 mod error;
 mod form;
+mod parts;
 mod tokens;
 
 pub use children::{declarator_of, with_declarator, with_expr, with_parameter};
