@@ -380,7 +380,8 @@ doing p = body (λ t. place (λ w. place (λ q. test (λ e. place (λ c. place (
 -- a `;` behind specifiers and declarators, and where nothing stands
 abbrev pub declared : Option Place → SpecifierTrees → DeclaredTrees → Form
 declared (Some p) xs ds = an_external (Typedef p (Declaration xs ds))
-declared None no_specifiers ds = a_stmt Empty
+declared None no_specifiers no_declarators = a_stmt Empty
+declared None no_specifiers (and_declarator ds d) = a_stmt (Declare (Declaration no_specifiers (and_declarator ds d)))
 declared None (and_specifier xs x) ds = a_stmt (Declare (Declaration (and_specifier xs x) ds))
 
 -- a `{`

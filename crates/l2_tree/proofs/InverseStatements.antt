@@ -6,7 +6,7 @@ use Rattle.l2_grammar.specs.declared.states.Sort.{Sort}
 use Rattle.l2_grammar.specs.Trees.{Seen, Tree, begin, token, child}
 use Rattle.l2_grammar.specs.Law.{IsUnit, Spells}
 use Rattle.l2_grammar.proofs.Fed.{unique}
-use Rattle.l2_tree.specs.Trees.{ExprTree, no_specifiers, and_specifier, no_declarators, DeclarationTree, Declaration, FirstTree, NoFirst, FirstExpression, FirstDeclaration, StmtTree, Declare, Block, Evaluate, Empty, If, IfElse, While, Switch, Do, For, Case, Default, Label, Break, Continue, Return, ReturnValue, StmtTrees, no_stmts, and_stmt, Branch, BranchTrees, no_branches, and_branch, ExternalTree, Nothing, Global, Typedef, Function}
+use Rattle.l2_tree.specs.Trees.{ExprTree, no_specifiers, and_specifier, no_declarators, and_declarator, DeclarationTree, Declaration, FirstTree, NoFirst, FirstExpression, FirstDeclaration, StmtTree, Declare, Block, Evaluate, Empty, If, IfElse, While, Switch, Do, For, Case, Default, Label, Break, Continue, Return, ReturnValue, StmtTrees, no_stmts, and_stmt, Branch, BranchTrees, no_branches, and_branch, ExternalTree, Nothing, Global, Typedef, Function}
 use Rattle.l2_tree.specs.Spelling.{closed, perhaps, first_onto, run_stmt, stmts_onto, branches_onto, run_external, externals_onto, run_unit}
 use Rattle.l2_tree.proofs.Inverse.{Value, no_value, Form, a_stmt, an_external, branches, otherwise, body, listed, for_first, for_second, for_third, value, form, stmt_of, external_of, on_token, on_form_child, goes_on, begun, around, externals}
 use Rattle.l2_tree.proofs.InverseSteps.{has_begun, Whole, whole, IsValue, IsForm, by_begin, as_value, by_token, by_declarator, none_child, form_begin, form_token, value_token, form_value}
@@ -71,7 +71,8 @@ AsStmt : StmtTree → Type 0
 AsStmt t = (s : Sort) → IsStmt (run_stmt s t) t
 
 of_declare : (s : Sort) (d : DeclarationTree) → IsStmt (run_stmt s (Declare d)) (Declare d)
-of_declare s (Declaration no_specifiers ds) = record { comes = λ w h. absurd (cc) }
+of_declare s (Declaration no_specifiers no_declarators) = record { comes = λ w h. absurd (cc) }
+of_declare s (Declaration no_specifiers (and_declarator ds d)) = a_statement (value_token (of_declarators (of_specifiers by_begin no_specifiers) (and_declarator ds d)))
 of_declare s (Declaration (and_specifier xs x) ds) = a_statement (value_token (of_declarators (of_specifiers by_begin (and_specifier xs x)) ds))
 
 of_while : (s : Sort) (p q : Place) (e : ExprTree) (t : StmtTree) → AsStmt t → IsStmt (run_stmt s (While p q e t)) (While p q e t)
@@ -178,7 +179,10 @@ a_part i = record { comes = λ w h. ap external_of (i.comes w) }
 of_external : (s : Sort) (x : ExternalTree) → IsExternal (run_external s x) x
 unfolding IsList
 of_external s Nothing = record { comes = λ w h. refl }
-of_external s (Global (Declaration no_specifiers ds)) = record { comes = λ w h. absurd (cc) }
+of_external s (Global (Declaration no_specifiers no_declarators)) = record { comes = λ w h. absurd (cc) }
+of_external s (Global (Declaration no_specifiers (and_declarator ds d))) =
+    let i : IsForm (run_external s (Global (Declaration no_specifiers (and_declarator ds d)))) (a_stmt (Declare (Declaration no_specifiers (and_declarator ds d)))) = value_token (of_declarators (of_specifiers by_begin no_specifiers) (and_declarator ds d)) in
+    record { comes = λ w h. ap external_of (i.comes w) }
 of_external s (Global (Declaration (and_specifier xs x) ds)) =
     let i : IsForm (run_external s (Global (Declaration (and_specifier xs x) ds))) (a_stmt (Declare (Declaration (and_specifier xs x) ds))) = value_token (of_declarators (of_specifiers by_begin (and_specifier xs x)) ds) in
     record { comes = λ w h. ap external_of (i.comes w) }

@@ -275,10 +275,10 @@ abbrev mutual
 
 -- ---- statements and units
 
--- a declaration by itself has a specifier, or it would be a `;` alone
+-- a declaration of nothing would be a `;` alone: it has no run that may stand anywhere
 abbrev pub run_declaration : Sort → DeclarationTree → Tree
-run_declaration s (Declaration no_specifiers ds) = begin sort.Nowhere
-run_declaration s (Declaration (and_specifier xs x) ds) = declaration_onto (begin s) (Declaration (and_specifier xs x) ds)
+run_declaration s (Declaration no_specifiers no_declarators) = begin sort.Nowhere
+run_declaration s d = declaration_onto (begin s) d
 
 abbrev pub perhaps : Tree → Option ExprTree → Tree
 perhaps r None = r
