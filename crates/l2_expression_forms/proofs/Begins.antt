@@ -1,16 +1,16 @@
 -- With which tokens an expression begins.
-use Rattle.std.proofs.Common.{◌≡◌, ℕ, ℤ, Bool, true, false, cond, refl, ◌∙◌, sym}
+use Rattle.std.proofs.Common.{◌≡◌, ℕ, ℤ, Bool, true, false, cond, refl}
 use Rattle.l2_syntax.specs.declared.token.Mark.{Mark}
 use Rattle.l2_syntax.specs.declared.token.Mark.TheVariants as mark
 use Rattle.l2_syntax.specs.declared.token.TokenKind.{TokenKind}
 use Rattle.l2_syntax.specs.declared.token.TokenKind.TheVariants as kind
 use Rattle.l2_syntax.specs.declared.token.Scalar.{Scalar}
 use Rattle.l2_grammar.specs.declared.states.Items.{Items}
-use Rattle.l2_grammar.specs.declared.states.Items.TheVariants.{Lone as lone, Listed as listed, BehindElse as behind_else}
+use Rattle.l2_grammar.specs.declared.states.Items.TheVariants.{BehindElse as behind_else}
 use Rattle.l2_grammar.specs.declared.states.Sort.{Sort}
 use Rattle.l2_grammar.specs.declared.states.Sort.TheVariants.{Unit as unit, External as external, Item as item, Member as member, Parameter as parameter, Declarator as declarator, Enclosed as enclosed, Initialiser as initialiser}
 use Rattle.l2_grammar.specs.declared.states.Storage.{Storage}
-use Rattle.l2_grammar.specs.declared.states.Storage.TheVariants.{Automatic as automatic}
+use Rattle.l2_grammar.specs.declared.states.Storage.TheVariants.{Automatic as automatic, Stored as stored, Typedef as typedef}
 use Rattle.l2_grammar.specs.declared.states.State.{State}
 use Rattle.l2_grammar.specs.declared.states.State.TheVariants.{Fresh as fresh, Have as have, Braces as braces}
 use Rattle.l2_grammar.specs.Marks.{is}
@@ -21,6 +21,10 @@ use Rattle.l2_grammar.proofs.Bools.{no}
 specifier_none : (w : Storage) (k : TokenKind) → is_expression (specifier w k) ≡ false
 specifier_none automatic (kind.Mark mark.Static) = refl
 specifier_none automatic (kind.Mark mark.Extern) = refl
+specifier_none stored (kind.Mark mark.Static) = refl
+specifier_none stored (kind.Mark mark.Extern) = refl
+specifier_none typedef (kind.Mark mark.Static) = refl
+specifier_none typedef (kind.Mark mark.Extern) = refl
 specifier_none w k = refl
 
 external_none : (k : TokenKind) → is_expression (begun_external k) ≡ false
@@ -104,5 +108,31 @@ begun_text (declarator n) e = absurd (cc)
 begun_text (enclosed n) e = absurd (cc)
 begun_text s e = refl
 
+item_type : (b : Items) (n : ℕ) → is_expression (begun_item_in b (kind.TypeName n)) ≡ false
+item_type behind_else n = refl
+item_type b n = refl
+
+type_none : (s : Sort) (n : ℕ) → is_expression (on_token s fresh (kind.TypeName n)) ≡ false
+unfolding on_token is
+type_none (item b) n = item_type b n
+type_none s n = refl
+
+item_end : (b : Items) → is_expression (begun_item_in b kind.End) ≡ false
+item_end behind_else = refl
+item_end b = refl
+
+end_none : (s : Sort) → is_expression (on_token s fresh kind.End) ≡ false
+unfolding on_token is
+end_none (item b) = item_end b
+end_none s = refl
+
+-- no expression begins with the name of a type or with the end
+pub no_other : (s : Sort) (k : TokenKind) → is_expression (on_token s fresh k) ≡ true → ((n : ℕ) → k ≡ kind.Word n → ⊥) → ((v : ℤ) (y : Scalar) → k ≡ kind.Number v y → ⊥) → (k ≡ kind.Text → ⊥) → ((m : Mark) → k ≡ kind.Mark m → ⊥) → ⊥
+no_other s (kind.Word n) e w v t m = w n refl
+no_other s (kind.TypeName n) e w v t m = no e (type_none s n)
+no_other s (kind.Number x y) e w v t m = v x y refl
+no_other s kind.Text e w v t m = t refl
+no_other s (kind.Mark x) e w v t m = m x refl
+no_other s kind.End e w v t m = no e (end_none s)
+
 pub ruleset begins = (begun_mark, begun_number, begun_text)
-pub ruleset no_specifier = (specifier_none)

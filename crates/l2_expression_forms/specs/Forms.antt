@@ -4,14 +4,12 @@ use Rattle.l2_syntax.specs.declared.token.Mark.{Mark}
 use Rattle.l2_syntax.specs.declared.token.Mark.TheVariants as mark
 use Rattle.l2_syntax.specs.declared.token.TokenKind.TheVariants as kind
 use Rattle.l2_grammar.specs.declared.states.Sort.{Sort}
-use Rattle.l2_grammar.specs.declared.states.Right.{Right}
 use Rattle.l2_grammar.specs.declared.states.Right.TheVariants.{Binary as binary, Assignment as assignment, Conditional as conditional, Cast as cast, Prefix as prefix, Update as update}
 use Rattle.l2_grammar.specs.declared.states.State.{State}
 use Rattle.l2_grammar.specs.declared.states.State.TheVariants.{Have as have, Right as right, Sizing as sizing, Sized as sized, Paren as paren, ParenClose as paren_close, TypedClose as typed_close, Index as index, IndexClose as index_close, Call as call, CallMore as call_more, CallNext as call_next, MemberName as member_name, Quest as quest, QuestClose as quest_close, Word as word, Body as body, Statement as statement}
 use Rattle.l2_grammar.specs.Trees.{Tree, begin}
 use Rattle.l2_tree.specs.declared.operators.BinaryOperator.{BinaryOperator}
 use Rattle.l2_tree.specs.declared.operators.BinaryOperator.TheVariants as operator
-use Rattle.l2_tree.specs.declared.expression.Expr.{Expr}
 use Rattle.l2_tree.specs.Trees.{no_exprs, and_expr}
 use Rattle.l2_tree.specs.Spelling.{mark_at, behind, closed, within, bracketed, unary_mark, update_mark, member_mark, binary_mark, assignment_mark, run_expr, arguments_onto, run_parameter}
 use Rattle.l2_tree.specs.Units.{expr_tree, exprs_onto, parameter_tree}

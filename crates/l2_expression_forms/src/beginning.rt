@@ -12,8 +12,21 @@ use l2_grammar::{Sort, State};
 use l2_syntax::{Mark, Place, Token, TokenKind};
 use l2_tree::{Expr, UnaryOperator, UpdateOperator};
 
+/// Whether the state is one of an expression.
+pub fn is_expression(state: State) -> bool
+    ensures { result ≡ is_expression state }
+{
+    match state {
+        State::Have(_) | State::Right(_) | State::Sizing | State::Sized => true,
+        State::Paren | State::ParenClose | State::TypedClose => true,
+        State::Index | State::IndexClose => true,
+        State::Call | State::CallMore | State::CallNext | State::MemberName => true,
+        State::Quest | State::QuestClose | State::Word => true,
+        _ => false,
+    }
+}
+
 /// A mark with which an expression begins.
-#[tactic(auto, using(crate::proofs::Begins::no_specifier))]
 fn begun_by(sort: Sort, mark: Mark, place: Place) -> ExprForm
     requires expression { is_expression (begun (TokenKind.Mark mark)) ≡ true }
     ensures state { state_of result ≡ begun (TokenKind.Mark mark) }

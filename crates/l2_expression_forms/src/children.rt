@@ -52,17 +52,15 @@ fn with_right(
     let _ = sort;
     let left = Box::new(alloc, left)?;
     let right = Box::new(alloc, operand)?;
-    Ok(ExprForm::Whole(level_of(operator), Expr::Binary(left, operator, place, right)))
+    Ok(ExprForm::Whole(
+        level_of(operator),
+        Expr::Binary(left, operator, place, right),
+    ))
 }
 
 /// `a ,` and its right operand.
 #[tactic(auto, unfolding(l2_grammar::specs::Nesting::on_child))]
-fn with_last(
-    alloc: Global,
-    sort: Sort,
-    left: Expr,
-    operand: Expr,
-) -> Result<ExprForm, FormError>
+fn with_last(alloc: Global, sort: Sort, left: Expr, operand: Expr) -> Result<ExprForm, FormError>
     ensures state { IfOk result (λ f. state_of f ≡ on_child sort (state_of (ExprForm.Comma left)) Outcome.Value) }
     ensures tree { IfOk result (λ f. tree_of sort f ≡ within (tree_of sort (ExprForm.Comma left)) (λ z. run_expr z (expr_tree operand))) }
     ensures err { IfErr result (λ f. f ≡ FormError.NoMemory) }
@@ -219,19 +217,32 @@ pub fn with_expr(
     ensures err { IfErr result (λ f. f ≡ FormError.NoMemory) }
 {
     match form {
-        ExprForm::Binary(left, operator, place) => with_right(alloc, sort, left, operator, place, inner),
+        ExprForm::Binary(left, operator, place) => with_right(
+            alloc, sort, left, operator, place, inner,
+        ),
         ExprForm::Comma(left) => with_last(alloc, sort, left, inner),
-        ExprForm::Assign(target, operator, place) => with_assigned(alloc, sort, target, operator, place, inner),
+        ExprForm::Assign(target, operator, place) => with_assigned(
+            alloc, sort, target, operator, place, inner,
+        ),
         ExprForm::Question(condition, place) => Ok(ExprForm::Middle(condition, place, inner)),
-        ExprForm::Conditional(condition, place, middle) => with_otherwise(alloc, sort, condition, place, middle, inner),
+        ExprForm::Conditional(condition, place, middle) => with_otherwise(
+            alloc, sort, condition, place, middle, inner,
+        ),
         ExprForm::Unary(operator, place) => with_unary(alloc, sort, operator, place, inner),
         ExprForm::Update(operator, place) => with_updated(alloc, sort, operator, place, inner),
         ExprForm::Sizeof(place) => with_measured(alloc, sort, place, inner),
         ExprForm::Parenthesis(place) => Ok(ExprForm::Inside(place, inner)),
         ExprForm::Cast(place, kind) => with_cast(alloc, sort, place, kind, inner),
         ExprForm::Bracket(array, place) => Ok(ExprForm::Index(array, place, inner)),
-        ExprForm::Call(function, place) => Ok(ExprForm::Arguments(function, place, Vec::new(alloc), inner)),
-        ExprForm::NextArgument(function, place, arguments, last) => with_argument(sort, function, place, arguments, last, inner),
+        ExprForm::Call(function, place) => Ok(ExprForm::Arguments(
+            function,
+            place,
+            Vec::new(alloc),
+            inner,
+        )),
+        ExprForm::NextArgument(function, place, arguments, last) => with_argument(
+            sort, function, place, arguments, last, inner,
+        ),
         _ => unreachable!(),
     }
 }

@@ -175,6 +175,11 @@ pub(crate) fn close_middle(
     ensures state { state_of result ≡ on_token sort State.QuestClose token.kind }
     ensures tree { tree_of sort result ≡ then_token (tree_of sort (ExprForm.Middle condition place middle)) (plain (record { kind = token.kind; at = token.place })) }
 {
-    only(sort, Mark::Colon, token.kind, State::Right(Right::Conditional));
+    only(
+        sort,
+        Mark::Colon,
+        token.kind,
+        State::Right(Right::Conditional),
+    );
     ExprForm::Conditional(condition, place, middle)
 }

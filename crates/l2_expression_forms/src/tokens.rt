@@ -19,6 +19,13 @@ use l2_syntax::{Place, Token, TokenKind};
 use l2_tree::Expr;
 use std::alloc::Global;
 
+/// Whether the state is that of a statement behind the `;` of its expression, or behind the `:` of its label.
+pub fn leaves(state: State) -> bool
+    ensures { result ≡ leaves state }
+{
+    matches!(state, State::Statement(_) | State::Body)
+}
+
 /// The expression of a form in which a whole one stands.
 pub fn expr_of(sort: Sort, form: ExprForm) -> Expr
     requires whole { is_whole form ≡ true }
@@ -82,6 +89,7 @@ fn after_word(
 }
 
 /// The form behind a token with which the expression goes on.
+#[tactic(auto, unfolding(l2_grammar::specs::Networks::on_token, l2_grammar::specs::Nesting::stands))]
 pub fn with_token(
     alloc: Global,
     sort: Sort,
@@ -99,7 +107,9 @@ pub fn with_token(
         ExprForm::Word(name, place) => after_word(alloc, sort, name, place, token),
         ExprForm::Inside(place, inner) => close_parenthesis(alloc, sort, place, inner, token),
         ExprForm::TypeInside(place, kind) => Ok(close_type(sort, place, kind, token)),
-        ExprForm::Index(array, place, index) => close_index(alloc, sort, array, place, index, token),
+        ExprForm::Index(array, place, index) => close_index(
+            alloc, sort, array, place, index, token,
+        ),
         ExprForm::Call(function, place) => close_empty_call(alloc, sort, function, place, token),
         ExprForm::Arguments(function, place, arguments, last) => after_argument(
             alloc, sort, function, place, arguments, last, token,
@@ -107,9 +117,9 @@ pub fn with_token(
         ExprForm::Member(object, operator, place) => name_member(
             alloc, sort, object, operator, place, token,
         ),
-        ExprForm::Middle(condition, place, middle) => Ok(
-            close_middle(sort, condition, place, middle, token),
-        ),
+        ExprForm::Middle(condition, place, middle) => Ok(close_middle(
+            sort, condition, place, middle, token,
+        )),
         _ => unreachable!(),
     }
 }
