@@ -82,10 +82,8 @@ fn is_placed(kind: TokenKind) -> bool
     match kind {
         TokenKind::Mark(mark) => is_mark_placed(mark),
         TokenKind::End => false,
-        TokenKind::Word(_)
-        | TokenKind::TypeName(_)
-        | TokenKind::Number { .. }
-        | TokenKind::Text => true,
+        TokenKind::Word(_) | TokenKind::TypeName(_) | TokenKind::Number { .. } | TokenKind::Text =>
+            true,
     }
 }
 

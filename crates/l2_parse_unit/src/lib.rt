@@ -2,7 +2,7 @@
 #![tactic(auto)]
 
 mod copies;
-mod refusals;
 mod laws;
+mod refusals;
 
 pub use laws::{refused_law, unique_unit_law};

@@ -1,4 +1,4 @@
-use Rattle.std.proofs.Common.{rules, subst, sym, ap, ◌∙◌, ◌≡◌, ◌<◌, ◌≤◌, length, slice_index_or}
+use Rattle.std.proofs.Common.{subst, sym, ap, ◌∙◌, ◌<◌, ◌≤◌, length, slice_index_or}
 use Rattle.l2_syntax.specs.declared.token.TokenKind.TheVariants.{Word}
 use Rattle.l2_syntax.specs.declared.refusal.Rule.TheVariants.{Syntax}
 use Rattle.l2_syntax.specs.declared.token.Token.{Token}
