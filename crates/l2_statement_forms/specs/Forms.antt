@@ -1,5 +1,5 @@
 -- What a form of a statement stands for: its state in the networks, and the tree of what has been read.
-use Rattle.std.specs.Prelude.{ℕ, Bool, true, false, List, Option, Some, None}
+use Rattle.std.specs.Prelude.{Bool, true, false, List, Option}
 use Rattle.l2_syntax.specs.declared.place.Place.{Place}
 use Rattle.l2_syntax.specs.declared.token.Mark.{Mark}
 use Rattle.l2_syntax.specs.declared.token.Mark.TheVariants as mark
@@ -16,7 +16,7 @@ use Rattle.l2_tree.specs.declared.expression.Expr.{Expr}
 use Rattle.l2_tree.specs.declared.statement.Stmt.{Stmt}
 use Rattle.l2_tree.specs.declared.statement.Branch.{Branch}
 use Rattle.l2_tree.specs.declared.statement.First.{First}
-use Rattle.l2_tree.specs.Trees.{StmtTree, no_stmts, BranchTrees, no_branches, and_branch}
+use Rattle.l2_tree.specs.Trees.{no_stmts, BranchTrees, no_branches, and_branch}
 use Rattle.l2_tree.specs.Units.{expr_tree, stmt_tree, branch_tree, first_tree, perhaps_tree, stmts_onto as stmt_trees, branches_onto as branch_trees}
 use Rattle.l2_tree.specs.Spelling.{plain, mark_at, behind, closed, within, run_expr, run_stmt, has_branches, else_if, perhaps, first_onto, head_onto, stmts_onto, branches_onto}
 use Rattle.l2_statement_forms.specs.declared.form.Chain.{Chain}
