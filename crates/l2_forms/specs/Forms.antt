@@ -11,7 +11,6 @@ use Rattle.l2_tree.specs.Spelling.{nowhere, behind, externals_onto}
 use Rattle.l2_expression_forms.specs.Forms as expressions
 use Rattle.l2_statement_forms.specs.Forms as statements
 use Rattle.l2_declarator_forms.specs.Forms as declarators
-use Rattle.l2_declaration_forms.specs.Forms as declarations
 use Rattle.l2_forms.specs.declared.form.Form.{Form}
 use Rattle.l2_forms.specs.declared.form.Form.TheVariants as form
 
@@ -22,7 +21,6 @@ state_of (form.Whole xs) = unit_end
 state_of (form.Expression f) = expressions.state_of f
 state_of (form.Statement f) = statements.state_of f
 state_of (form.Declarator f) = declarators.state_of f
-state_of (form.Declaration f) = declarations.state_of f
 
 abbrev pub tree_of : Sort → Form → Tree
 tree_of s form.Fresh = begin s
@@ -31,14 +29,12 @@ tree_of s (form.Whole xs) = behind (externals_onto (begin s) (map external_tree 
 tree_of s (form.Expression f) = expressions.tree_of s f
 tree_of s (form.Statement f) = statements.tree_of s f
 tree_of s (form.Declarator f) = declarators.tree_of s f
-tree_of s (form.Declaration f) = declarations.tree_of s f
 
 -- a form that a construct of this sort may have
 abbrev pub may : Sort → Form → Bool
 may s form.Fresh = not (is_unit s)
 may s (form.Unit xs) = is_unit s
 may s (form.Whole xs) = is_unit s
-may s (form.Declaration f) = declarations.may s f
 may s f = true
 
 -- what is kept of the tree is so

@@ -8,7 +8,6 @@ ghost use Rattle.l2_forms.specs.Forms.{state_of, tree_of, may};
 
 use crate::error::FormError;
 use crate::form::Form;
-use l2_declaration_forms as declarations;
 use l2_declarator_forms as declarators;
 use l2_expression_forms as expressions;
 use l2_grammar::{Outcome, Shape, Sort, State};
@@ -29,7 +28,8 @@ pub fn with_expr(alloc: Global, sort: Sort, form: Form, inner: Expr) -> Result<F
         Form::Expression(f) => Ok(Form::Expression(expressions::with_expr(alloc, sort, f, inner)?)),
         Form::Statement(f) => Ok(Form::Statement(statements::with_expr(sort, f, inner))),
         Form::Declarator(f) => Ok(Form::Declarator(declarators::with_expr(sort, f, inner))),
-        Form::Declaration(f) => Ok(Form::Declaration(in_declaration(alloc, sort, f, inner)?)),
-        Form::Fresh | Form::Unit(_) | Form::Whole(_) => unreachable!(),
+        Form::Fresh => unreachable!(),
+        Form::Unit(_) => unreachable!(),
+        Form::Whole(_) => unreachable!(),
     }
 }

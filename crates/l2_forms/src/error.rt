@@ -7,3 +7,25 @@ pub enum FormError {
     #[error("no memory left")]
     NoMemory,
 }
+
+impl From<l2_expression_forms::FormError> for FormError {
+    ghost use Rattle.l2_forms.specs.declared.error.FormError.TheVariants.{NoMemory};
+    ghost use Rattle.std.specs.Prelude.{◌≡◌};
+
+    ghost from_gives = { λ _ e. e ≡ NoMemory };
+
+    fn from(_e: l2_expression_forms::FormError) -> FormError {
+        FormError::NoMemory
+    }
+}
+
+impl From<l2_statement_forms::FormError> for FormError {
+    ghost use Rattle.l2_forms.specs.declared.error.FormError.TheVariants.{NoMemory};
+    ghost use Rattle.std.specs.Prelude.{◌≡◌};
+
+    ghost from_gives = { λ _ e. e ≡ NoMemory };
+
+    fn from(_e: l2_statement_forms::FormError) -> FormError {
+        FormError::NoMemory
+    }
+}

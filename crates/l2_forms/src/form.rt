@@ -1,4 +1,3 @@
-use l2_declaration_forms::DeclarationForm;
 use l2_declarator_forms::DeclaratorForm;
 use l2_expression_forms::ExprForm;
 use l2_statement_forms::StatementForm;
@@ -16,5 +15,4 @@ pub enum Form {
     Expression(ExprForm),
     Statement(StatementForm),
     Declarator(DeclaratorForm),
-    Declaration(DeclarationForm),
 }

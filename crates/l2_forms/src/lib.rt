@@ -3,8 +3,8 @@
 #![tactic(auto)]
 
 mod children;
-mod fold;
+mod error;
 mod form;
-mod tokens;
 
-pub use fold::externals;
+pub use error::FormError;
+pub use form::Form;
