@@ -1,5 +1,6 @@
 -- Lists of the whole grammar that the small form wants to have no element, or one alone.
 use Rattle.std.proofs.Common.{◌≡◌, ◌≢◌, ℕ, List, [], ◌∷◌, length, get_or, Option, Some, None, refl, ap, sym, ◌∙◌, arith}
+use Rattle.std.specs.Prelude.{option_map}
 use Rattle.l2_syntax.specs.declared.place.Place.{Place}
 use Rattle.l2_syntax.specs.declared.token.Name.{Name as NameText}
 use Rattle.std.specs.declared.vec.Vec.{Vec}
@@ -14,12 +15,18 @@ use Rattle.l2_tree.specs.declared.expression.Declarator as declarator
 use Rattle.l2_tree.specs.declared.expression.Declared as declared
 use Rattle.l2_tree.specs.declared.expression.Declared.{Declared}
 use Rattle.l2_tree.specs.declared.expression.Initialiser.{Initialiser}
-use Rattle.l2_tree.specs.Trees.{ExprTree, ExprTrees, no_exprs, and_expr, SpecifierTree, SpecifierTrees, no_specifiers, and_specifier, DeclaratorTree, Declarator, CoreTree, Absent, Named, Group, SuffixTree, SuffixTrees, no_suffixes, and_suffix, DeclaredTree, DeclaredTrees, no_declarators, and_declarator, Declaration}
-use Rattle.l2_tree.specs.Units.{expr_tree, exprs_onto, specifier_tree, specifiers_onto, suffix_tree, suffixes_onto, declared_tree, declarators_onto, declarator_tree, initialiser_tree}
+use Rattle.l2_tree.specs.declared.statement.Stmt as stmt
+use Rattle.l2_tree.specs.declared.statement.Stmt.{Stmt}
+use Rattle.l2_tree.specs.declared.statement.Branch.{Branch}
+use Rattle.l2_tree.specs.Trees.{ExprTree, ExprTrees, no_exprs, and_expr, SpecifierTree, SpecifierTrees, no_specifiers, and_specifier, DeclaratorTree, Declarator, CoreTree, Absent, Named, Group, SuffixTree, SuffixTrees, no_suffixes, and_suffix, DeclaredTree, DeclaredTrees, no_declarators, and_declarator, Declaration, no_stmts, BranchTree, BranchTrees, no_branches, and_branch}
+use Rattle.l2_tree.specs.Units.{expr_tree, exprs_onto, specifier_tree, specifiers_onto, suffix_tree, suffixes_onto, declared_tree, declarators_onto, declarator_tree, initialiser_tree, stmt_tree, stmts_onto, branch_tree, branches_onto}
 use Rattle.l2_tree.proofs.Expressions.{expr_tree-Call}
+use Rattle.l2_tree.proofs.Statements.{stmt_tree-Block, stmt_tree-If, stmt_tree-IfElse}
 use Rattle.l2_tree.proofs.Declarations.{core_tree-Group, declared_tree-Plain, declared_tree-Initialised}
 use Rattle.l2_small.specs.declared.words.Word.{Word}
-use Rattle.l2_small.specs.SmallForm.{word_of, small_choice, small_expr, word_alone, name_alone, small_declare, small_initialise, small_declared, small_declaration}
+use Rattle.l2_small.specs.SmallForm.{word_of, small_choice, small_expr, word_alone, name_alone, small_declare, small_initialise, small_declared, small_declaration, small_assert, small_effect, small_stmt, branch_with, small_branch, small_block, small_stmts, and_then}
+use Rattle.l2_small.specs.SmallTrees as small
+use Rattle.l2_small.proofs.SmallTrees.{small_stmt_tree-Block}
 
 -- ---- arguments
 
@@ -119,3 +126,64 @@ declaration-other names xs (y ∷ []) h = absurd (h refl)
 declaration-other names xs (y ∷ z ∷ more) h = two_declared names xs no_declarators (declared_tree y) (declared_tree z) more
 
 pub ruleset declarations = (declaration-one, declaration-other)
+
+-- ---- statements
+
+asserted_later : (names : List NameText) (w : Word) (es : ExprTrees) (d e : ExprTree) (xs : List Expr) → small_assert names (Some w) (exprs_onto (and_expr (and_expr es d) e) xs) ≡ None
+asserted_later names w es d e [] = refl
+asserted_later names w es d e (x ∷ xs) = asserted_later names w (and_expr es d) e (expr_tree x) xs
+
+pub small_assert-one : (names : List NameText) (w : Word) (xs : List Expr) (x : Expr) → length xs ≡ 1 → x ≡ get_or xs 0 x →
+    small_assert names (Some w) (exprs_onto no_exprs xs) ≡ small_assert names (Some w) (and_expr no_exprs (expr_tree x))
+small_assert-one names w [] x h e = absurd (omega arith)
+small_assert-one names w (y ∷ []) x h e = ap (λ z. small_assert names (Some w) (and_expr no_exprs (expr_tree z))) (sym e)
+small_assert-one names w (y ∷ z ∷ more) x h e = absurd (omega arith)
+
+pub small_assert-other : (names : List NameText) (w : Word) (xs : List Expr) → length xs ≢ 1 → small_assert names (Some w) (exprs_onto no_exprs xs) ≡ None
+small_assert-other names w [] h = refl
+small_assert-other names w (y ∷ []) h = absurd (h refl)
+small_assert-other names w (y ∷ z ∷ more) h = asserted_later names w no_exprs (expr_tree y) (expr_tree z) more
+
+pub ruleset asserted = (small_assert-one, small_assert-other)
+
+pub small_effect-Call : (names : List NameText) (e : Expr) (f : Box Expr Global) (p : Place) (all : Vec Expr Global) →
+    e ≡ expr.Call f p all → small_effect names (expr_tree e) ≡ small_assert names (word_of (expr_tree f.value)) (exprs_onto no_exprs all.items)
+small_effect-Call names e f p all h = ap (λ x. small_effect names (expr_tree x)) h ∙ ap (small_effect names) (expr_tree-Call f p all)
+
+pub ruleset effects = (small_effect-Call)
+
+-- ---- branches and blocks
+
+pub small_stmt-If : (names : List NameText) (s : Stmt) (bs : Vec Branch Global) →
+    s ≡ stmt.If bs → small_stmt names (stmt_tree s) ≡ option_map (λ b. small.If b.test b.body) (small_branch names (branches_onto no_branches bs.items))
+small_stmt-If names s bs h = ap (λ x. small_stmt names (stmt_tree x)) h ∙ ap (small_stmt names) (stmt_tree-If bs)
+
+pub small_stmt-IfElse : (names : List NameText) (s : Stmt) (bs : Vec Branch Global) (t : Box Stmt Global) →
+    s ≡ stmt.IfElse bs t →
+    small_stmt names (stmt_tree s) ≡ and_then (small_branch names (branches_onto no_branches bs.items)) (λ b. option_map (small.IfElse b.test b.body) (small_block names (stmt_tree t.value)))
+small_stmt-IfElse names s bs t h = ap (λ x. small_stmt names (stmt_tree x)) h ∙ ap (small_stmt names) (stmt_tree-IfElse bs t)
+
+pub ruleset ifs = (small_stmt-If, small_stmt-IfElse)
+
+branch_later : (names : List NameText) (bs : BranchTrees) (a b : BranchTree) (all : List Branch) → small_branch names (branches_onto (and_branch (and_branch bs a) b) all) ≡ None
+branch_later names bs a b [] = refl
+branch_later names bs a b (x ∷ all) = branch_later names (and_branch bs a) b (branch_tree x) all
+
+pub small_branch-one : (names : List NameText) (all : List Branch) (b : Branch) → length all ≡ 1 → b ≡ get_or all 0 b →
+    small_branch names (branches_onto no_branches all) ≡ and_then (small_expr names (expr_tree b.condition)) (λ x. option_map (branch_with x) (small_block names (stmt_tree b.body)))
+small_branch-one names [] b h e = absurd (omega arith)
+small_branch-one names (y ∷ []) b h e = ap (λ z. small_branch names (and_branch no_branches (branch_tree z))) (sym e)
+small_branch-one names (y ∷ z ∷ more) b h e = absurd (omega arith)
+
+pub small_branch-other : (names : List NameText) (all : List Branch) → length all ≢ 1 → small_branch names (branches_onto no_branches all) ≡ None
+small_branch-other names [] h = refl
+small_branch-other names (y ∷ []) h = absurd (h refl)
+small_branch-other names (y ∷ z ∷ more) h = branch_later names no_branches (branch_tree y) (branch_tree z) more
+
+pub ruleset branches = (small_branch-one, small_branch-other)
+
+pub small_block-Block : (names : List NameText) (s : Stmt) (p : Place) (all : Vec Stmt Global) →
+    s ≡ stmt.Block p all → small_block names (stmt_tree s) ≡ option_map small.Block (small_stmts names (stmts_onto no_stmts all.items))
+small_block-Block names s p all h = ap (λ x. small_block names (stmt_tree x)) h ∙ ap (small_block names) (stmt_tree-Block p all)
+
+pub ruleset blocks = (small_block-Block, small_stmt_tree-Block)

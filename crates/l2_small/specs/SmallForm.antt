@@ -18,7 +18,7 @@ use Rattle.l2_tree.specs.declared.operators.AssignmentOperator.TheVariants as as
 use Rattle.l2_tree.specs.declared.operators.SpecifierWord.{SpecifierWord}
 use Rattle.l2_tree.specs.declared.operators.SpecifierWord.TheVariants as word
 use Rattle.l2_tree.specs.Trees as specifier
-use Rattle.l2_tree.specs.Trees.{ExprTree, Name, Number, Parenthesised, Unary, Binary, Call, Assign, ExprTrees, no_exprs, and_expr, SpecifierTrees, no_specifiers, and_specifier, ParameterTrees, Bare, no_parameters, and_parameter, DeclaratorTree, Declarator, Named, SuffixTrees, Parameters, no_suffixes, and_suffix, InitialiserTree, Expression, DeclaredTree, Uninitialised, Initialised, DeclaredTrees, no_declarators, and_declarator, DeclarationTree, Declaration, StmtTree, Declare, Block, Evaluate, If, IfElse, While, ReturnValue, StmtTrees, no_stmts, and_stmt, Branch, no_branches, and_branch, ExternalTree, Function, UnitTree}
+use Rattle.l2_tree.specs.Trees.{ExprTree, Name, Number, Parenthesised, Unary, Binary, Call, Assign, ExprTrees, no_exprs, and_expr, SpecifierTrees, no_specifiers, and_specifier, ParameterTrees, Bare, no_parameters, and_parameter, DeclaratorTree, Declarator, Named, SuffixTrees, Parameters, no_suffixes, and_suffix, InitialiserTree, Expression, DeclaredTree, Uninitialised, Initialised, DeclaredTrees, no_declarators, and_declarator, DeclarationTree, Declaration, StmtTree, Declare, Block, Evaluate, If, IfElse, While, ReturnValue, StmtTrees, no_stmts, and_stmt, BranchTrees, Branch, no_branches, and_branch, ExternalTree, Function, UnitTree}
 use Rattle.l2_small.specs.SmallTrees as small
 use Rattle.l2_small.specs.SmallTrees.{SmallExprTree, SmallStmtTree, SmallStmtTrees, SmallUnitTree}
 use Rattle.l2_small.specs.declared.words.Word.{Word}
@@ -112,10 +112,15 @@ small_declaration names d = None
 
 -- ---- statements
 
+-- whether an assignment is by `=`
+abbrev pub is_plain : AssignmentOperator → Bool
+is_plain assignment.Assign = true
+is_plain o = false
+
 -- `NAME = e ;`
 abbrev pub small_assign : List NameText → Option Word → AssignmentOperator → ExprTree → Option SmallStmtTree
-small_assign names (Some w) assignment.Assign e = if is_variable names w.name then option_map (small.Assign w.name w.place) (small_expr names e) else None
-small_assign names w o e = None
+small_assign names (Some w) o e = if is_plain o && is_variable names w.name then option_map (small.Assign w.name w.place) (small_expr names e) else None
+small_assign names None o e = None
 
 -- `assert ( e ) ;`
 abbrev pub small_assert : List NameText → Option Word → ExprTrees → Option SmallStmtTree
@@ -127,17 +132,28 @@ small_effect names (Assign a o p e) = small_assign names (word_of a) o e
 small_effect names (Call f p es) = small_assert names (word_of f) es
 small_effect names e = None
 
+-- what an `if` tests, and its block
+pub record SmallBranchTree : Type 0 where
+  pub test : SmallExprTree
+  pub body : SmallStmtTree
+
+abbrev pub branch_with : SmallExprTree → SmallStmtTree → SmallBranchTree
+branch_with x b = record { test = x; body = b }
+
 abbrev mutual
   pub small_stmt : List NameText → StmtTree → Option SmallStmtTree
   small_stmt names (Declare d) = small_declaration names d
   small_stmt names (Evaluate e) = small_effect names e
-  small_stmt names (If (and_branch no_branches (Branch p q e s))) =
-      and_then (small_expr names e) (λ x. option_map (small.If x) (small_block names s))
-  small_stmt names (IfElse (and_branch no_branches (Branch p q e s)) t) =
-      and_then (small_expr names e) (λ x. and_then (small_block names s) (λ b. option_map (small.IfElse x b) (small_block names t)))
+  small_stmt names (If bs) = option_map (λ b. small.If b.test b.body) (small_branch names bs)
+  small_stmt names (IfElse bs t) = and_then (small_branch names bs) (λ b. option_map (small.IfElse b.test b.body) (small_block names t))
   small_stmt names (While p q e s) = and_then (small_expr names e) (λ x. option_map (small.While p x) (small_block names s))
   small_stmt names (ReturnValue p e) = option_map small.Return (small_expr names e)
   small_stmt names s = None
+
+  -- `if ( e ) block`, and no `else if` behind it
+  pub small_branch : List NameText → BranchTrees → Option SmallBranchTree
+  small_branch names (and_branch no_branches (Branch p q e s)) = and_then (small_expr names e) (λ x. option_map (branch_with x) (small_block names s))
+  small_branch names bs = None
 
   -- `{ items }`
   pub small_block : List NameText → StmtTree → Option SmallStmtTree
@@ -168,10 +184,13 @@ main_place names d = None
 abbrev pub unit_with : List NameText → Place → SmallStmtTrees → SmallUnitTree
 unit_with names p items = record { main = p; items = items; names = names }
 
+-- `main ( void ) { items }`
+abbrev pub main_with : List NameText → DeclaratorTree → StmtTrees → Option SmallUnitTree
+main_with names d items = and_then (main_place names d) (λ p. option_map (unit_with names p) (small_stmts names items))
+
 -- `int main ( void ) { items }`
 abbrev pub small_external : List NameText → ExternalTree → Option SmallUnitTree
-small_external names (Function xs d p items) =
-    if is_int (word_alone xs) then and_then (main_place names d) (λ q. option_map (unit_with names q) (small_stmts names items)) else None
+small_external names (Function xs d p items) = if is_int (word_alone xs) then main_with names d items else None
 small_external names x = None
 
 abbrev pub small_externals : List NameText → List ExternalTree → Option SmallUnitTree

@@ -6,8 +6,13 @@ mod error;
 mod expressions;
 mod make;
 mod operators;
+mod statements;
+#[cfg(test)]
+mod tests;
 mod tree;
+mod units;
 mod words;
 
 pub use error::SmallError;
 pub use tree::{SmallExpr, SmallStmt, SmallUnit};
+pub use units::small;

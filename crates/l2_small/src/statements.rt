@@ -1,19 +1,26 @@
 // Statements.
 ghost use Rattle.std.specs.Prelude.{◌≡◌, Some, None, IfOk, IsErrOf};
-ghost use Rattle.l2_tree.specs.Trees.{no_exprs, no_stmts, no_branches, If, IfElse};
+ghost use Rattle.l2_tree.specs.Trees.{no_exprs, and_expr, no_stmts, no_branches};
 ghost use Rattle.l2_tree.specs.Units.{expr_tree, exprs_onto, stmt_tree, stmts_onto, branches_onto};
-ghost use Rattle.l2_small.specs.SmallTrees.{none, small_stmt_tree, small_stmts_onto};
-ghost use Rattle.l2_small.specs.SmallForm.{small_assign, small_assert, small_effect, small_stmt, small_block, small_stmts};
+ghost use Rattle.l2_small.specs.SmallTrees.{none, small_expr_tree, small_stmt_tree, small_stmts_onto};
+ghost use Rattle.l2_small.specs.SmallForm.{is_plain, small_assign, small_assert, small_effect, small_stmt, branch_with, small_branch, small_block, small_stmts};
 
 use crate::declarations::declaration;
 use crate::error::SmallError;
 use crate::expressions::{small_expr, word_of};
 use crate::make::{if_else, if_then, while_loop};
-use crate::tree::SmallStmt;
+use crate::tree::{SmallExpr, SmallStmt};
 use crate::words::{Word, is_assert, is_variable};
 use l2_syntax::Name;
 use l2_tree::{AssignmentOperator, Branch, Expr, Stmt};
 use std::alloc::Global;
+
+/// What an `if` tests, and its block.
+#[derive(Drop)]
+struct SmallBranch {
+    test: SmallExpr,
+    body: SmallStmt,
+}
 
 /// Whether an operator is `=`.
 fn is_plain(operator: AssignmentOperator) -> bool
@@ -48,7 +55,9 @@ fn assign(
 {
     match target {
         Some(word) => {
-            if is_plain(operator) && is_variable(names, word.name) {
+            if !is_plain(operator) {
+                Err(SmallError::NotSmall)
+            } else if is_variable(names, word.name) {
                 let value = small_expr(alloc, names, value)?;
                 Ok(SmallStmt::Assign(word.name, word.place, value))
             } else {
@@ -129,7 +138,7 @@ fn effect(alloc: Global, names: &[Name], e: &Expr) -> Result<SmallStmt, SmallErr
 
 /// The small tree of a statement.
 #[cycle(statements)]
-#[tactic(auto, using(crate::proofs::Steps::steps, crate::proofs::Lists::branches))]
+#[tactic(auto, using(crate::proofs::Steps::steps, crate::proofs::Lists::ifs))]
 fn statement(alloc: Global, names: &[Name], s: &Stmt) -> Result<SmallStmt, SmallError>
     ensures ok { IfOk result (λ r. small_stmt names.now (stmt_tree s.now) ≡ Some (small_stmt_tree r)) }
     ensures not_small { IsErrOf result SmallError.NotSmall → small_stmt names.now (stmt_tree s.now) ≡ None }
@@ -137,8 +146,15 @@ fn statement(alloc: Global, names: &[Name], s: &Stmt) -> Result<SmallStmt, Small
     match s {
         Stmt::Declaration(d) => declaration(alloc, names, d),
         Stmt::Expression(e) => effect(alloc, names, e),
-        Stmt::If(branches) => one_way(alloc, names, branches),
-        Stmt::IfElse(branches, other) => two_ways(alloc, names, branches, other),
+        Stmt::If(branches) => {
+            let first = branch(alloc, names, branches)?;
+            if_then(alloc, first.test, first.body)
+        }
+        Stmt::IfElse(branches, other) => {
+            let first = branch(alloc, names, branches)?;
+            let last = block(alloc, names, other)?;
+            if_else(alloc, first.test, first.body, last)
+        }
         Stmt::While(place, _, e, s) => {
             let test = small_expr(alloc, names, e)?;
             let body = block(alloc, names, s)?;
@@ -162,41 +178,18 @@ fn statement(alloc: Global, names: &[Name], s: &Stmt) -> Result<SmallStmt, Small
     }
 }
 
-/// `if (e) { .. }`.
+/// `if (e) { .. }`, and no `else if` behind it.
 #[cycle(statements)]
-#[tactic(auto, using(crate::proofs::Steps::steps, crate::proofs::Lists::ways))]
-fn one_way(alloc: Global, names: &[Name], all: &[Branch]) -> Result<SmallStmt, SmallError>
-    ensures ok { IfOk result (λ r. small_stmt names.now (If (branches_onto no_branches all.now)) ≡ Some (small_stmt_tree r)) }
-    ensures not_small { IsErrOf result SmallError.NotSmall → small_stmt names.now (If (branches_onto no_branches all.now)) ≡ None }
+#[tactic(auto, using(crate::proofs::Steps::steps, crate::proofs::Lists::branches))]
+fn branch(alloc: Global, names: &[Name], all: &[Branch]) -> Result<SmallBranch, SmallError>
+    ensures ok { IfOk result (λ r. small_branch names.now (branches_onto no_branches all.now) ≡ Some (branch_with (small_expr_tree r.test) (small_stmt_tree r.body))) }
+    ensures not_small { IsErrOf result SmallError.NotSmall → small_branch names.now (branches_onto no_branches all.now) ≡ None }
 {
     match all {
         [only] => {
             let test = small_expr(alloc, names, &only.condition)?;
             let body = block(alloc, names, &only.body)?;
-            if_then(alloc, test, body)
-        }
-        _ => Err(SmallError::NotSmall),
-    }
-}
-
-/// `if (e) { .. } else { .. }`.
-#[cycle(statements)]
-#[tactic(auto, using(crate::proofs::Steps::steps, crate::proofs::Lists::ways))]
-fn two_ways(
-    alloc: Global,
-    names: &[Name],
-    all: &[Branch],
-    other: &Stmt,
-) -> Result<SmallStmt, SmallError>
-    ensures ok { IfOk result (λ r. small_stmt names.now (IfElse (branches_onto no_branches all.now) (stmt_tree other.now)) ≡ Some (small_stmt_tree r)) }
-    ensures not_small { IsErrOf result SmallError.NotSmall → small_stmt names.now (IfElse (branches_onto no_branches all.now) (stmt_tree other.now)) ≡ None }
-{
-    match all {
-        [only] => {
-            let test = small_expr(alloc, names, &only.condition)?;
-            let body = block(alloc, names, &only.body)?;
-            let other = block(alloc, names, other)?;
-            if_else(alloc, test, body, other)
+            Ok(SmallBranch { test, body })
         }
         _ => Err(SmallError::NotSmall),
     }
@@ -236,11 +229,7 @@ fn block(alloc: Global, names: &[Name], s: &Stmt) -> Result<SmallStmt, SmallErro
 /// The small trees of statements, one after another.
 #[cycle(statements)]
 #[tactic(auto, using(crate::proofs::Steps::steps, crate::proofs::Rows::rows))]
-pub fn statements(
-    alloc: Global,
-    names: &[Name],
-    all: &[Stmt],
-) -> Result<Vec<SmallStmt>, SmallError>
+pub fn statements(alloc: Global, names: &[Name], all: &[Stmt]) -> Result<Vec<SmallStmt>, SmallError>
     ensures ok { IfOk result (λ r. small_stmts names.now (stmts_onto no_stmts all.now) ≡ Some (small_stmts_onto none r.items)) }
     ensures not_small { IsErrOf result SmallError.NotSmall → small_stmts names.now (stmts_onto no_stmts all.now) ≡ None }
 {
