@@ -13,3 +13,4 @@ pub mod Complete
 pub mod Kept
 pub mod Reading
 pub mod Limits
+pub mod Expressions
