@@ -1,5 +1,5 @@
 -- The reader of one expression reads the longest with which the tokens begin, and is refused as it is said.
-use Rattle.std.proofs.Common.{◌≡◌, ℕ, List, [], ◌∷◌, ◌++◌, ◌⊎◌, inl, inr, Bool, true, false, cond, refl, sym, ap, ◌∙◌, subst, append-nil}
+use Rattle.std.proofs.Common.{◌≡◌, ℕ, List, [], ◌∷◌, ◌++◌, ◌⊎◌, inl, inr, Bool, true, false, cond, ◌&&◌, ◌||◌, leb, refl, sym, ap, ◌∙◌, subst, append-nil}
 use Rattle.l2_syntax.specs.declared.token.TokenKind.{TokenKind}
 use Rattle.l2_syntax.specs.declared.token.TokenKind.TheVariants as kind
 use Rattle.l2_grammar.specs.States.{Level, comma_level, assignment_level, conditional_level, Sort, external, nowhere, fresh, Outcome, value}
@@ -7,8 +7,8 @@ use Rattle.l2_grammar.specs.Networks.{on_token}
 use Rattle.l2_grammar.specs.Nesting.{opens, outcome, stands, is_unit}
 use Rattle.l2_grammar.specs.Trees.{Seen, Tree, begin, token, child, spell, sort, state, Fits}
 use Rattle.l2_grammar.specs.Reader.{Next, Stop, To, takes, begins, step}
-use Rattle.l2_grammar.specs.Limits.{nests, brackets, on_deep, deep_from, nesting, syntax}
-use Rattle.l2_grammar.specs.Expressions.{sort_at, IsExpression, SpellsExpression, BeginsExpression, NoneGoesOn, NextDeep, NextShallow, EndsBefore, NestsAt, BreaksAt, close, Expressed, Whole, Broken, valued, closed, on_further, express, expression}
+use Rattle.l2_grammar.specs.Limits.{most, opens_bracket, nests, brackets, on_deep, deep_from, nesting, syntax}
+use Rattle.l2_grammar.specs.Expressions.{sort_at, IsExpression, SpellsExpression, BeginsExpression, NoneGoesOn, NextDeep, NextShallow, EndsBefore, NestsAt, BreaksAt, close, Expressed, Whole, Broken, is_value, closed, on_further, express, expression}
 use Rattle.l2_grammar.proofs.Bools.{cond_true, cond_false, no, not_false}
 use Rattle.l2_grammar.proofs.Nests.{nowhere_stands}
 use Rattle.l2_grammar.proofs.Taken.{done}
@@ -258,7 +258,7 @@ whole_closed : (l : Level) (n : Next) (used : List Seen) → ClosedTo (sort_at l
 whole_closed l Stop used c left u rest e = absurd (cc)
 whole_closed l (To x js) used c left u rest e = go (outcome (state x)) refl e
   where
-    go : (o : Outcome) → outcome (state x) ≡ o → valued o x left ≡ Whole u rest → SpellsExpression l used u × (left ≡ rest)
+    go : (o : Outcome) → outcome (state x) ≡ o → cond (is_value o) (Whole x left) (Broken syntax left) ≡ Whole u rest → SpellsExpression l used u × (left ≡ rest)
     go value q h =
         let same : x ≡ u = cc in
         let s : SpellsExpression l used x = record { whole = record { fits = c.0; sorted = c.1; whole = q }; spelled = c.2 } in
@@ -269,25 +269,25 @@ not_whole : (l : Level) (n : Next) (used : List Seen) → ClosedTo (sort_at l) u
 not_whole l Stop used c left f = refl
 not_whole l (To x js) used c left f = go (outcome (state x)) refl
   where
-    go : (o : Outcome) → outcome (state x) ≡ o → valued o x left ≡ Broken syntax left
+    go : (o : Outcome) → outcome (state x) ≡ o → cond (is_value o) (Whole x left) (Broken syntax left) ≡ Broken syntax left
     go value q = absurd (f x (record { whole = record { fits = c.0; sorted = c.1; whole = q }; spelled = c.2 }))
     go o q = refl
 
 closed_syntax : (n : Next) (left rest : List Seen) → closed n left ≡ Broken syntax rest → left ≡ rest
 closed_syntax Stop left rest e = cc
-closed_syntax (To x js) left rest e = go (outcome (state x)) e
+closed_syntax (To x js) left rest e = go (is_value (outcome (state x))) e
   where
-    go : (o : Outcome) → valued o x left ≡ Broken syntax rest → left ≡ rest
-    go value h = absurd (cc)
-    go o h = cc
+    go : (b : Bool) → cond b (Whole x left) (Broken syntax left) ≡ Broken syntax rest → left ≡ rest
+    go true h = absurd (cc)
+    go false h = cc
 
 closed_nesting : (n : Next) (left rest : List Seen) → closed n left ≡ Broken nesting rest → ⊥
 closed_nesting Stop left rest e = cc
-closed_nesting (To x js) left rest e = go (outcome (state x)) e
+closed_nesting (To x js) left rest e = go (is_value (outcome (state x))) e
   where
-    go : (o : Outcome) → valued o x left ≡ Broken nesting rest → ⊥
-    go value h = cc
-    go o h = cc
+    go : (b : Bool) → cond b (Whole x left) (Broken syntax left) ≡ Broken nesting rest → ⊥
+    go true h = cc
+    go false h = cc
 
 -- no expression goes on with a token that stops the reader
 no_more : (l : Level) (used : List Seen) (t : Seen) (r : Tree) (ks : List Tree) → walk used (begin (sort_at l)) [] ≡ To r ks → step ks r t ≡ Stop → BeginsExpression l (used ++ (t ∷ [])) → ⊥
@@ -346,7 +346,7 @@ ends_so l n ts r rest b =
     let a = arrived_closed _ r (walk_closes l b.used r b.spells) in
     ap (λ x. expression l n x) b.parts ∙ through b.used rest n (begin (sort_at l)) [] a.run a.stack a.is b.shallow
     ∙ stays l n b.used a.run a.stack rest a.is b.further b.next
-    ∙ ap (λ x. closed x rest) (closes_to l b.used r a.run a.stack b.spells a.is) ∙ ap (λ o. valued o r rest) b.spells.whole.whole
+    ∙ ap (λ x. closed x rest) (closes_to l b.used r a.run a.stack b.spells a.is) ∙ ap (λ o. cond (is_value o) (Whole r rest) (Broken syntax rest)) b.spells.whole.whole
 
 pub nests_at : (l : Level) (n : ℕ) (ts rest : List Seen) → expression l n ts ≡ Broken nesting rest → NestsAt l n ts rest
 nests_at l n ts rest e =
@@ -377,8 +377,8 @@ breaks_at l n ts rest e =
       begins = walk_begins l o.used o.run o.stack o.arrives;
       further = subst (λ x. NoneGoesOn l o.used x) p h.0;
       unfinished = λ u s.
-          let c : expression l n ts ≡ valued (outcome (state u)) u o.rest = h.2 ∙ ap (λ x. closed x o.rest) (closes_to l o.used u o.run o.stack s o.arrives) in
-          let w : valued (outcome (state u)) u o.rest ≡ Whole u o.rest = ap (λ x. valued x u o.rest) s.whole.whole in cc;
+          let c : expression l n ts ≡ cond (is_value (outcome (state u))) (Whole u o.rest) (Broken syntax o.rest) = h.2 ∙ ap (λ x. closed x o.rest) (closes_to l o.used u o.run o.stack s o.arrives) in
+          let w : cond (is_value (outcome (state u))) (Whole u o.rest) (Broken syntax o.rest) ≡ Whole u o.rest = ap (λ x. cond (is_value x) (Whole u o.rest) (Broken syntax o.rest)) s.whole.whole in cc;
       shallow = o.shallow;
       next = subst (λ x. NextShallow l n o.used x) p h.1;
     }
@@ -389,3 +389,20 @@ breaks_so l n ts rest b =
     ap (λ x. expression l n x) b.parts ∙ through b.used rest n (begin (sort_at l)) [] a.run a.stack a.is b.shallow
     ∙ stays l n b.used a.run a.stack rest a.is b.further b.next
     ∙ not_whole l (close a.stack a.run) b.used (closed_walk l b.used a.run a.stack a.is) rest b.unfinished
+
+-- a token with which no expression begins
+begin_ended : (l : Level) → is_value (outcome (state (begin (sort_at l)))) ≡ false
+unfolding outcome
+begin_ended l = refl
+
+pub first_refused : (l : Level) (n : ℕ) (t : Seen) (ts : List Seen) → (opens_bracket t.kind && leb most n) ≡ false → takes (sort_at l) fresh t.kind ≡ false → expression l n (t ∷ ts) ≡ Broken syntax (t ∷ ts)
+first_refused l n t ts b e =
+    let stop : step [] (begin (sort_at l)) t ≡ Stop = cond_false (takes (sort_at l) fresh t.kind) _ _ e ∙ cond_false (begins (sort_at l) fresh t.kind) _ _ (not_false _ (none_begins (sort_at l) (is_unit (sort_at l)) t.kind refl (level_unit l))) in
+    let shallow : nests n t.kind Stop ≡ false = bracket (opens_bracket t.kind && leb most n) b in
+    cond_false (nests n t.kind (step [] (begin (sort_at l)) t)) _ _ (ap (nests n t.kind) stop ∙ shallow)
+    ∙ ap (λ x. on_further x (express ts (brackets n t.kind)) (closed (To (begin (sort_at l)) []) (t ∷ ts))) stop
+    ∙ ap (λ x. cond x (Whole (begin (sort_at l)) (t ∷ ts)) (Broken syntax (t ∷ ts))) (begin_ended l)
+  where
+    bracket : (x : Bool) → x ≡ false → (x || false) ≡ false
+    bracket true e = absurd (cc)
+    bracket false e = refl

@@ -1,5 +1,5 @@
 -- Reading one expression: which tokens spell one, where it ends, and where reading it is refused.
-use Rattle.std.specs.Prelude.{◌≡◌, ◌↔◌, ◌++◌, ℕ, List, [], ◌∷◌, true, cond}
+use Rattle.std.specs.Prelude.{◌≡◌, ◌↔◌, ◌++◌, ℕ, List, [], ◌∷◌, Bool, true, false, cond}
 use Rattle.l2_grammar.specs.States.{Level, comma_level, assignment_level, conditional_level, Sort, operand, Outcome, value}
 use Rattle.l2_grammar.specs.Nesting.{outcome, stands}
 use Rattle.l2_grammar.specs.Trees.{Seen, Tree, begin, child, spell, sort, state, Fits}
@@ -87,13 +87,13 @@ pub data Expressed : Type 0 where
   Whole : Tree → List Seen → Expressed  -- with what is left behind it
   Broken : Rule → List Seen → Expressed  -- with what is left from the token on
 
-abbrev pub valued : Outcome → Tree → List Seen → Expressed
-valued value r ts = Whole r ts
-valued o r ts = Broken syntax ts
+abbrev pub is_value : Outcome → Bool
+is_value value = true
+is_value o = false
 
 abbrev pub closed : Next → List Seen → Expressed
 closed Stop ts = Broken syntax ts
-closed (To r ks) ts = valued (outcome (state r)) r ts
+closed (To r ks) ts = cond (is_value (outcome (state r))) (Whole r ts) (Broken syntax ts)
 
 abbrev pub on_further : Next → (Tree → List Tree → Expressed) → Expressed → Expressed
 on_further Stop f e = e
