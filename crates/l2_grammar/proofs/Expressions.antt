@@ -1,5 +1,5 @@
 -- The reader of one expression reads the longest with which the tokens begin, and is refused as it is said.
-use Rattle.std.proofs.Common.{◌≡◌, ℕ, List, [], ◌∷◌, ◌++◌, ◌⊎◌, inl, inr, Bool, true, false, cond, ◌&&◌, ◌||◌, leb, refl, sym, ap, ◌∙◌, subst, append-nil}
+use Rattle.std.proofs.Common.{◌≡◌, ◌≤◌, ◌<◌, ℕ, suc, List, [], ◌∷◌, ◌++◌, ◌⊎◌, inl, inr, Bool, true, false, cond, ◌&&◌, ◌||◌, leb, refl, sym, ap, ◌∙◌, subst, append_assoc, append-nil, length, length-append, arith}
 use Rattle.l2_syntax.specs.declared.token.TokenKind.{TokenKind}
 use Rattle.l2_syntax.specs.declared.token.TokenKind.TheVariants as kind
 use Rattle.l2_grammar.specs.States.{Level, comma_level, assignment_level, conditional_level, Sort, external, nowhere, fresh, Outcome, value}
@@ -7,14 +7,16 @@ use Rattle.l2_grammar.specs.Networks.{on_token}
 use Rattle.l2_grammar.specs.Nesting.{opens, outcome, stands, is_unit}
 use Rattle.l2_grammar.specs.Trees.{Seen, Tree, begin, token, child, spell, sort, state, Fits}
 use Rattle.l2_grammar.specs.Reader.{Next, Stop, To, takes, begins, step}
-use Rattle.l2_grammar.specs.Limits.{most, opens_bracket, nests, brackets, on_deep, deep_from, nesting, syntax}
-use Rattle.l2_grammar.specs.Expressions.{sort_at, IsExpression, SpellsExpression, BeginsExpression, NoneGoesOn, NextDeep, NextShallow, EndsBefore, NestsAt, BreaksAt, close, Expressed, Whole, Broken, is_value, closed, on_further, express, expression}
+use Rattle.l2_grammar.specs.Limits.{most, longest, opens_bracket, exceeds, nests, brackets, on_deep, deep_from, nesting, syntax}
+use Rattle.l2_grammar.specs.Expressions.{sort_at, IsExpression, SpellsExpression, BeginsExpression, NoneGoesOn, brackets_behind, DeepBracket, Within, NextDeep, NextShallow, EndsBefore, NestsAt, BreaksAt, close, Expressed, Whole, Broken, is_value, closed, on_further, express, expression}
+use Rattle.std.proofs.lemmas.Bool.{le-leb, leb-true, leb-false}
 use Rattle.l2_grammar.proofs.Bools.{cond_true, cond_false, no, not_false}
 use Rattle.l2_grammar.proofs.Nests.{nowhere_stands}
 use Rattle.l2_grammar.proofs.Taken.{done}
 use Rattle.l2_grammar.proofs.Whole.{seen}
 use Rattle.l2_grammar.proofs.Complete.{complete}
 use Rattle.l2_grammar.proofs.Fed.{walked, walk, after, fed}
+use Rattle.l2_grammar.proofs.Lengths.{exceeds_length}
 use Rattle.l2_grammar.proofs.Kept.{before, Good, Kept, kept_cond, moved, kept_step, Begun, finish_in}
 
 -- what the levels have in common
@@ -149,12 +151,7 @@ walk_last (x ∷ ts) t r ks q js e = go (step ks r x) e (λ r' ks'. walk_last ts
     go Stop e f = absurd (cc)
     go (To r' ks') e f = f r' ks' e
 
--- the brackets that are open behind these tokens
-abbrev behind : List Seen → ℕ → ℕ
-behind [] n = n
-behind (t ∷ ts) n = behind ts (brackets n t.kind)
-
-deep_walk : (ts : List Seen) (t : Seen) (n : ℕ) (r : Tree) (ks : List Tree) (q : Tree) (js : List Tree) → walk ts r ks ≡ To q js → deep_from ts t n r ks ≡ nests (behind ts n) t.kind (step js q t)
+deep_walk : (ts : List Seen) (t : Seen) (n : ℕ) (r : Tree) (ks : List Tree) (q : Tree) (js : List Tree) → walk ts r ks ≡ To q js → deep_from ts t n r ks ≡ nests (brackets_behind n ts) t.kind (step js q t)
 deep_walk [] t n r ks q js e = ap (λ x. walked_nests x) e
   where
     walked_nests : Next → Bool
@@ -162,7 +159,7 @@ deep_walk [] t n r ks q js e = ap (λ x. walked_nests x) e
     walked_nests (To x y) = nests n t.kind (step y x t)
 deep_walk (x ∷ ts) t n r ks q js e = go (step ks r x) e (λ r' ks'. deep_walk ts t (brackets n x.kind) r' ks' q js)
   where
-    go : (y : Next) → walked y (walk ts) ≡ To q js → ((r' : Tree) (ks' : List Tree) → walk ts r' ks' ≡ To q js → deep_from ts t (brackets n x.kind) r' ks' ≡ nests (behind ts (brackets n x.kind)) t.kind (step js q t)) → on_deep y (deep_from ts t (brackets n x.kind)) ≡ nests (behind ts (brackets n x.kind)) t.kind (step js q t)
+    go : (y : Next) → walked y (walk ts) ≡ To q js → ((r' : Tree) (ks' : List Tree) → walk ts r' ks' ≡ To q js → deep_from ts t (brackets n x.kind) r' ks' ≡ nests (brackets_behind (brackets n x.kind) ts) t.kind (step js q t)) → on_deep y (deep_from ts t (brackets n x.kind)) ≡ nests (brackets_behind (brackets n x.kind) ts) t.kind (step js q t)
     go Stop e f = absurd (cc)
     go (To r' ks') e f = f r' ks' e
 
@@ -171,7 +168,7 @@ abbrev Shallow : List Seen → ℕ → Tree → List Tree → Type 0
 Shallow ts n r ks = (before : List Seen) (t : Seen) (more : List Seen) → ts ≡ before ++ (t ∷ more) → deep_from before t n r ks ≡ true → ⊥
 
 -- where none is, the reader comes through them
-through : (ts rest : List Seen) (n : ℕ) (r : Tree) (ks : List Tree) (q : Tree) (js : List Tree) → walk ts r ks ≡ To q js → Shallow ts n r ks → express (ts ++ rest) n r ks ≡ express rest (behind ts n) q js
+through : (ts rest : List Seen) (n : ℕ) (r : Tree) (ks : List Tree) (q : Tree) (js : List Tree) → walk ts r ks ≡ To q js → Shallow ts n r ks → express (ts ++ rest) n r ks ≡ express rest (brackets_behind n ts) q js
 through [] rest n r ks q js e s = ap (λ x. from x) e
   where
     from : Next → Expressed
@@ -179,7 +176,7 @@ through [] rest n r ks q js e s = ap (λ x. from x) e
     from (To x y) = express rest n x y
 through (t ∷ ts) rest n r ks q js e s = go (nests n t.kind (step ks r t)) refl (step ks r t) refl e (λ r' ks'. through ts rest (brackets n t.kind) r' ks' q js)
   where
-    go : (b : Bool) → nests n t.kind (step ks r t) ≡ b → (y : Next) → step ks r t ≡ y → walked y (walk ts) ≡ To q js → ((r' : Tree) (ks' : List Tree) → walk ts r' ks' ≡ To q js → Shallow ts (brackets n t.kind) r' ks' → express (ts ++ rest) (brackets n t.kind) r' ks' ≡ express rest (behind ts (brackets n t.kind)) q js) → cond b (Broken nesting (t ∷ (ts ++ rest))) (on_further y (express (ts ++ rest) (brackets n t.kind)) (closed (close ks r) (t ∷ (ts ++ rest)))) ≡ express rest (behind ts (brackets n t.kind)) q js
+    go : (b : Bool) → nests n t.kind (step ks r t) ≡ b → (y : Next) → step ks r t ≡ y → walked y (walk ts) ≡ To q js → ((r' : Tree) (ks' : List Tree) → walk ts r' ks' ≡ To q js → Shallow ts (brackets n t.kind) r' ks' → express (ts ++ rest) (brackets n t.kind) r' ks' ≡ express rest (brackets_behind (brackets n t.kind) ts) q js) → cond b (Broken nesting (t ∷ (ts ++ rest))) (on_further y (express (ts ++ rest) (brackets n t.kind)) (closed (close ks r) (t ∷ (ts ++ rest)))) ≡ express rest (brackets_behind (brackets n t.kind) ts) q js
     go true i y h w f = absurd (s [] t ts refl i)
     go false i Stop h w f = absurd (cc)
     go false i (To r' ks') h w f = f r' ks' w (λ u x more p d. s (t ∷ u) x more (ap (λ z. t ∷ z) p) (ap (λ v. on_deep v (deep_from u x (brackets n t.kind))) h ∙ d))
@@ -199,7 +196,7 @@ record Reached (v : Expressed) (ts : List Seen) (n : ℕ) (r : Tree) (ks : List 
   parts : ts ≡ used ++ rest
   arrives : walk used r ks ≡ To run stack
   shallow : Shallow used n r ks
-  end : AtEnd v (behind used n) run stack rest
+  end : AtEnd v (brackets_behind n used) run stack rest
 
 shallow_nothing : (n : ℕ) (r : Tree) (ks : List Tree) → Shallow [] n r ks
 shallow_nothing n r ks [] t more e d = absurd (cc)
@@ -289,6 +286,136 @@ closed_nesting (To x js) left rest e = go (is_value (outcome (state x))) e
     go true h = cc
     go false h = cc
 
+-- what is too deep for the reader is so by the tokens alone
+first_false : (a b : Bool) → (a || b) ≡ false → a ≡ false
+first_false true b e = absurd (cc)
+first_false false b e = refl
+
+or_false : (a : Bool) → a ≡ false → (a || false) ≡ false
+or_false true e = absurd (cc)
+or_false false e = refl
+
+or_true : (a b : Bool) → (a || b) ≡ true → (a ≡ true) ⊎ (b ≡ true)
+or_true true b e = inl refl
+or_true false b e = inr e
+
+left_true : (a b : Bool) → a ≡ true → (a || b) ≡ true
+left_true true b e = refl
+left_true false b e = absurd (cc)
+
+right_true : (a b : Bool) → b ≡ true → (a || b) ≡ true
+right_true true b e = refl
+right_true false b e = e
+
+walk_length : (l : Level) (used : List Seen) (r : Tree) (ks : List Tree) → walk used (begin (sort_at l)) [] ≡ To r ks → 1 ≤ length used → exceeds (To r ks) ≡ leb (suc longest) (length used)
+walk_length l [] r ks w b = absurd (omega (arith, b))
+walk_length l (t ∷ ts) r ks w b =
+    let k : Kept (sort_at l) (λ m. t ∷ (ts ++ m)) (To r ks) = subst (λ n. Kept (sort_at l) (λ m. t ∷ (ts ++ m)) n) w (kept_start (sort_at l) (level_unit l) t ts) in
+    exceeds_length l (level_unit l) (t ∷ ts) r ks k.0 (sym (append-nil (t ∷ ts)) ∙ k.1 [])
+
+-- of a token with which some expression goes on
+step_length : (l : Level) (used : List Seen) (t : Seen) (r : Tree) (ks : List Tree) (q : Tree) (js : List Tree) → walk used (begin (sort_at l)) [] ≡ To r ks → step ks r t ≡ To q js → exceeds (To q js) ≡ leb (suc longest) (suc (length used))
+step_length l used t r ks q js w h =
+    let e : length (used ++ (t ∷ [])) ≡ suc (length used) = let a = length-append used (t ∷ []) in omega arith in
+    walk_length l (used ++ (t ∷ [])) q js (walk_last used t (begin (sort_at l)) [] r ks w ∙ ap (λ y. walked y (walk [])) h) (omega arith)
+    ∙ ap (λ n. leb (suc longest) n) e
+
+next_deep : (l : Level) (n : ℕ) (used : List Seen) (t : Seen) (ts : List Seen) (r : Tree) (ks : List Tree) → walk used (begin (sort_at l)) [] ≡ To r ks → Within n used → nests (brackets_behind n used) t.kind (step ks r t) ≡ true → NextDeep l n used (t ∷ ts)
+next_deep l n used t ts r ks w i d = go (step ks r t) refl (or_true _ _ d)
+  where
+    go : (y : Next) → step ks r t ≡ y → (DeepBracket n used t) ⊎ (exceeds y ≡ true) → NextDeep l n used (t ∷ ts)
+    go y h (inl b) = inl b
+    go Stop h (inr b) = absurd (cc)
+    go (To q js) h (inr b) =
+        let a : leb (suc longest) (suc (length used)) ≡ true = sym (step_length l used t r ks q js w h) ∙ b in
+        let c : suc longest ≤ suc (length used) = leb-true (suc longest) (suc (length used)) a in
+        let s = i.short in
+        inr (omega arith, walk_begins l (used ++ (t ∷ [])) q js (walk_last used t (begin (sort_at l)) [] r ks w ∙ ap (λ y. walked y (walk [])) h))
+
+deep_next : (l : Level) (n : ℕ) (used : List Seen) (t : Seen) (ts : List Seen) (r : Tree) (ks : List Tree) → walk used (begin (sort_at l)) [] ≡ To r ks → NextDeep l n used (t ∷ ts) → nests (brackets_behind n used) t.kind (step ks r t) ≡ true
+deep_next l n used t ts r ks w (inl b) = left_true _ _ b
+deep_next l n used t ts r ks w (inr b) =
+    let a = arrived l (used ++ (t ∷ [])) b.1 in
+    go (step ks r t) refl (sym (walk_last used t (begin (sort_at l)) [] r ks w) ∙ a.is)
+  where
+    go : (y : Next) → step ks r t ≡ y → {q : Tree} {js : List Tree} → walked y (walk []) ≡ To q js → ((opens_bracket t.kind && leb most (brackets_behind n used)) || exceeds y) ≡ true
+    go Stop h e = absurd (cc)
+    go (To x xs) h e =
+        let c = b.0 in
+        right_true _ _ (step_length l used t r ks x xs w h ∙ le-leb (suc longest) (suc (length used)) (omega arith))
+
+-- a token of those through which the reader comes
+record Inside (l : Level) (used : List Seen) (t : Seen) : Type 0 where
+  run : Tree
+  stack : List Tree
+  next : Tree
+  rest : List Tree
+  arrives : walk used (begin (sort_at l)) [] ≡ To run stack
+  goes_on : step stack run t ≡ To next rest
+
+inside_of : (l : Level) (used : List Seen) (t : Seen) (more : List Seen) (r : Tree) (ks : List Tree) → walk (used ++ (t ∷ more)) (begin (sort_at l)) [] ≡ To r ks → Inside l used t
+inside_of l used t more r ks w =
+    let a = arrived_before used (t ∷ more) (begin (sort_at l)) [] (record { run = r; stack = ks; is = w }) in
+    let b = arrived_before (used ++ (t ∷ [])) more (begin (sort_at l)) [] (record { run = r; stack = ks; is = ap (λ x. walk x (begin (sort_at l)) []) (append_assoc used (t ∷ []) more) ∙ w }) in
+    go a b (step a.stack a.run t) refl (sym (walk_last used t (begin (sort_at l)) [] a.run a.stack a.is) ∙ b.is)
+  where
+    go : (a : Arrived (walk used (begin (sort_at l)) [])) (b : Arrived (walk (used ++ (t ∷ [])) (begin (sort_at l)) [])) (y : Next) → step a.stack a.run t ≡ y → walked y (walk []) ≡ To b.run b.stack → Inside l used t
+    go a b Stop h e = absurd (cc)
+    go a b (To q js) h e = record { run = a.run; stack = a.stack; next = q; rest = js; arrives = a.is; goes_on = h }
+
+deep_inside : (l : Level) (n : ℕ) (used : List Seen) (t : Seen) (i : Inside l used t) → deep_from used t n (begin (sort_at l)) [] ≡ ((opens_bracket t.kind && leb most (brackets_behind n used)) || leb (suc longest) (suc (length used)))
+deep_inside l n used t i =
+    deep_walk used t n (begin (sort_at l)) [] i.run i.stack i.arrives
+    ∙ ap (λ y. nests (brackets_behind n used) t.kind y) i.goes_on
+    ∙ ap (λ x. (opens_bracket t.kind && leb most (brackets_behind n used)) || x) (step_length l used t i.run i.stack i.next i.rest i.arrives i.goes_on)
+
+shallow_of : (l : Level) (n : ℕ) (used : List Seen) (r : Tree) (ks : List Tree) → walk used (begin (sort_at l)) [] ≡ To r ks → Within n used → Shallow used n (begin (sort_at l)) []
+shallow_of l n used r ks w i b t more e d =
+    let x = inside_of l b t more r ks (ap (λ z. walk z (begin (sort_at l)) []) (sym e) ∙ w) in
+    go (or_true _ _ (sym (deep_inside l n b t x) ∙ d))
+  where
+    go : (DeepBracket n b t) ⊎ (leb (suc longest) (suc (length b)) ≡ true) → ⊥
+    go (inl f) = i.shallow b t more e f
+    go (inr f) =
+        let c : suc longest ≤ suc (length b) = leb-true (suc longest) (suc (length b)) f in
+        let a = length-append b (t ∷ more) in
+        let g : length used ≡ length (b ++ (t ∷ more)) = ap (λ z. length z) e in
+        let s = i.short in omega arith
+
+record Last (ts : List Seen) : Type 0 where
+  before : List Seen
+  last : Seen
+  parts : ts ≡ before ++ (last ∷ [])
+
+last_of : (t : Seen) (ts : List Seen) → Last (t ∷ ts)
+last_of t [] = record { before = []; last = t; parts = refl }
+last_of t (x ∷ ts) = let o = last_of x ts in record { before = t ∷ o.before; last = o.last; parts = ap (λ z. t ∷ z) o.parts }
+
+within_of : (l : Level) (n : ℕ) (used : List Seen) (r : Tree) (ks : List Tree) → walk used (begin (sort_at l)) [] ≡ To r ks → Shallow used n (begin (sort_at l)) [] → Within n used
+within_of l n used r ks w s = record { short = short used refl; shallow = shallow }
+  where
+    at : (b : List Seen) (t : Seen) (more : List Seen) → used ≡ b ++ (t ∷ more) → Inside l b t
+    at b t more e = inside_of l b t more r ks (ap (λ z. walk z (begin (sort_at l)) []) (sym e) ∙ w)
+
+    shallow : (b : List Seen) (t : Seen) (more : List Seen) → used ≡ b ++ (t ∷ more) → DeepBracket n b t → ⊥
+    shallow b t more e d = s b t more e (deep_inside l n b t (at b t more e) ∙ left_true _ _ d)
+
+    few : (b : List Seen) (t : Seen) → used ≡ b ++ (t ∷ []) → suc longest ≤ suc (length b) → ⊥
+    few b t e d = s b t [] e (deep_inside l n b t (at b t [] e) ∙ right_true _ _ (le-leb (suc longest) (suc (length b)) d))
+
+    short : (x : List Seen) → used ≡ x → length used ≤ longest
+    short [] e = let a : length used ≡ 0 = ap (λ z. length z) e in omega arith
+    short (t ∷ ts) e =
+        let o = last_of t ts in
+        let p : used ≡ o.before ++ (o.last ∷ []) = e ∙ o.parts in
+        let a : length used ≡ length (o.before ++ (o.last ∷ [])) = ap (λ z. length z) p in
+        let b = length-append o.before (o.last ∷ []) in
+        go o p (leb (suc longest) (suc (length o.before))) refl (omega arith)
+      where
+        go : (o : Last (t ∷ ts)) → used ≡ o.before ++ (o.last ∷ []) → (x : Bool) → leb (suc longest) (suc (length o.before)) ≡ x → length used ≡ suc (length o.before) → length used ≤ longest
+        go o p true f g = absurd (few o.before o.last p (leb-true (suc longest) (suc (length o.before)) f))
+        go o p false f g = let h : suc (length o.before) < suc longest = leb-false (suc longest) (suc (length o.before)) f in omega arith
+
 -- no expression goes on with a token that stops the reader
 no_more : (l : Level) (used : List Seen) (t : Seen) (r : Tree) (ks : List Tree) → walk used (begin (sort_at l)) [] ≡ To r ks → step ks r t ≡ Stop → BeginsExpression l (used ++ (t ∷ [])) → ⊥
 no_more l used t r ks w h b =
@@ -297,34 +424,35 @@ no_more l used t r ks w h b =
     let f = walk_last used t (begin (sort_at l)) [] r ks w in
     let g : walked (step ks r t) (walk []) ≡ Stop = ap (λ n. walked n (walk [])) h in cc
 
-halted : (l : Level) (n : ℕ) (used : List Seen) (r : Tree) (ks : List Tree) (rest : List Seen) (v : Expressed) → walk used (begin (sort_at l)) [] ≡ To r ks → AtEnd v (behind used n) r ks rest → ((m : List Seen) → v ≡ Broken nesting m → ⊥) → NoneGoesOn l used rest × NextShallow l n used rest × (v ≡ closed (close ks r) rest)
+halted : (l : Level) (n : ℕ) (used : List Seen) (r : Tree) (ks : List Tree) (rest : List Seen) (v : Expressed) → walk used (begin (sort_at l)) [] ≡ To r ks → AtEnd v (brackets_behind n used) r ks rest → ((m : List Seen) → v ≡ Broken nesting m → ⊥) → NoneGoesOn l used rest × NextShallow n used rest × (v ≡ closed (close ks r) rest)
 halted l n used r ks [] v w e f = (tt, tt, e)
 halted l n used r ks (t ∷ ts) v w (inl p) f = absurd (f (t ∷ ts) p.1)
 halted l n used r ks (t ∷ ts) v w (inr p) f = (
   no_more l used t r ks w p.1,
-  λ d. no (sym (deep_walk used t n (begin (sort_at l)) [] r ks w) ∙ d) p.0,
+  λ d. no d (first_false _ _ p.0),
   p.2,
 )
 
-nested_end : (l : Level) (n : ℕ) (used : List Seen) (r : Tree) (ks : List Tree) (left rest : List Seen) (v : Expressed) → walk used (begin (sort_at l)) [] ≡ To r ks → AtEnd v (behind used n) r ks left → v ≡ Broken nesting rest → (left ≡ rest) × NextDeep l n used left
-nested_end l n used r ks [] rest v w e q = absurd (closed_nesting (close ks r) [] rest (sym e ∙ q))
-nested_end l n used r ks (t ∷ ts) rest v w (inl p) q = let f = p.1 in (cc, deep_walk used t n (begin (sort_at l)) [] r ks w ∙ p.0)
-nested_end l n used r ks (t ∷ ts) rest v w (inr p) q = absurd (closed_nesting (close ks r) (t ∷ ts) rest (sym p.2 ∙ q))
+nested_end : (l : Level) (n : ℕ) (used : List Seen) (r : Tree) (ks : List Tree) (left rest : List Seen) (v : Expressed) → walk used (begin (sort_at l)) [] ≡ To r ks → Within n used → AtEnd v (brackets_behind n used) r ks left → v ≡ Broken nesting rest → (left ≡ rest) × NextDeep l n used left
+nested_end l n used r ks [] rest v w i e q = absurd (closed_nesting (close ks r) [] rest (sym e ∙ q))
+nested_end l n used r ks (t ∷ ts) rest v w i (inl p) q = let f = p.1 in (cc, next_deep l n used t ts r ks w i p.0)
+nested_end l n used r ks (t ∷ ts) rest v w i (inr p) q = absurd (closed_nesting (close ks r) (t ∷ ts) rest (sym p.2 ∙ q))
 
 -- where no expression goes on with the next token the reader stops
-stays : (l : Level) (n : ℕ) (used : List Seen) (r : Tree) (ks : List Tree) (rest : List Seen) → walk used (begin (sort_at l)) [] ≡ To r ks → NoneGoesOn l used rest → NextShallow l n used rest → express rest (behind used n) r ks ≡ closed (close ks r) rest
+stays : (l : Level) (n : ℕ) (used : List Seen) (r : Tree) (ks : List Tree) (rest : List Seen) → walk used (begin (sort_at l)) [] ≡ To r ks → NoneGoesOn l used rest → NextShallow n used rest → express rest (brackets_behind n used) r ks ≡ closed (close ks r) rest
 stays l n used r ks [] w g s = refl
 stays l n used r ks (t ∷ ts) w g s =
-    cond_false (nests (behind used n) t.kind (step ks r t)) _ _ (not_false _ (λ i. s (deep_walk used t n (begin (sort_at l)) [] r ks w ∙ i)))
-    ∙ ap (λ y. on_further y (express ts (brackets (behind used n) t.kind)) (closed (close ks r) (t ∷ ts))) (stop (step ks r t) refl)
+    let h = stop (step ks r t) refl in
+    cond_false (nests (brackets_behind n used) t.kind (step ks r t)) _ _ (ap (nests (brackets_behind n used) t.kind) h ∙ or_false _ (not_false _ s))
+    ∙ ap (λ y. on_further y (express ts (brackets (brackets_behind n used) t.kind)) (closed (close ks r) (t ∷ ts))) h
   where
     stop : (y : Next) → step ks r t ≡ y → step ks r t ≡ Stop
     stop Stop h = h
     stop (To r' ks') h = absurd (g (walk_begins l (used ++ (t ∷ [])) r' ks' (walk_last used t (begin (sort_at l)) [] r ks w ∙ ap (λ y. walked y (walk [])) h)))
 
-nests_there : (l : Level) (n : ℕ) (used : List Seen) (r : Tree) (ks : List Tree) (rest : List Seen) → walk used (begin (sort_at l)) [] ≡ To r ks → NextDeep l n used rest → express rest (behind used n) r ks ≡ Broken nesting rest
+nests_there : (l : Level) (n : ℕ) (used : List Seen) (r : Tree) (ks : List Tree) (rest : List Seen) → walk used (begin (sort_at l)) [] ≡ To r ks → NextDeep l n used rest → express rest (brackets_behind n used) r ks ≡ Broken nesting rest
 nests_there l n used r ks [] w d = absurd d
-nests_there l n used r ks (t ∷ ts) w d = cond_true (nests (behind used n) t.kind (step ks r t)) _ _ (sym (deep_walk used t n (begin (sort_at l)) [] r ks w) ∙ d)
+nests_there l n used r ks (t ∷ ts) w d = cond_true (nests (brackets_behind n used) t.kind (step ks r t)) _ _ (deep_next l n used t ts r ks w d)
 
 -- the laws
 pub ends_before : (l : Level) (n : ℕ) (ts : List Seen) (r : Tree) (rest : List Seen) → expression l n ts ≡ Whole r rest → EndsBefore l n ts r rest
@@ -337,33 +465,33 @@ ends_before l n ts r rest e =
       parts = o.parts ∙ ap (λ x. o.used ++ x) p.1;
       spells = p.0;
       further = subst (λ x. NoneGoesOn l o.used x) p.1 h.0;
-      shallow = o.shallow;
-      next = subst (λ x. NextShallow l n o.used x) p.1 h.1;
+      within = within_of l n o.used o.run o.stack o.arrives o.shallow;
+      next = subst (λ x. NextShallow n o.used x) p.1 h.1;
     }
 
 pub ends_so : (l : Level) (n : ℕ) (ts : List Seen) (r : Tree) (rest : List Seen) → EndsBefore l n ts r rest → expression l n ts ≡ Whole r rest
 ends_so l n ts r rest b =
     let a = arrived_closed _ r (walk_closes l b.used r b.spells) in
-    ap (λ x. expression l n x) b.parts ∙ through b.used rest n (begin (sort_at l)) [] a.run a.stack a.is b.shallow
+    ap (λ x. expression l n x) b.parts ∙ through b.used rest n (begin (sort_at l)) [] a.run a.stack a.is (shallow_of l n b.used a.run a.stack a.is b.within)
     ∙ stays l n b.used a.run a.stack rest a.is b.further b.next
     ∙ ap (λ x. closed x rest) (closes_to l b.used r a.run a.stack b.spells a.is) ∙ ap (λ o. cond (is_value o) (Whole r rest) (Broken syntax rest)) b.spells.whole.whole
 
 pub nests_at : (l : Level) (n : ℕ) (ts rest : List Seen) → expression l n ts ≡ Broken nesting rest → NestsAt l n ts rest
 nests_at l n ts rest e =
     let o = reached ts n (begin (sort_at l)) [] in
-    let p = nested_end l n o.used o.run o.stack o.rest rest (expression l n ts) o.arrives o.end e in
+    let p = nested_end l n o.used o.run o.stack o.rest rest (expression l n ts) o.arrives (within_of l n o.used o.run o.stack o.arrives o.shallow) o.end e in
     record {
       used = o.used;
       parts = o.parts ∙ ap (λ x. o.used ++ x) p.0;
       begins = walk_begins l o.used o.run o.stack o.arrives;
       deep = subst (λ x. NextDeep l n o.used x) p.0 p.1;
-      shallow = o.shallow;
+      within = within_of l n o.used o.run o.stack o.arrives o.shallow;
     }
 
 pub nests_so : (l : Level) (n : ℕ) (ts rest : List Seen) → NestsAt l n ts rest → expression l n ts ≡ Broken nesting rest
 nests_so l n ts rest b =
     let a = arrived l b.used b.begins in
-    ap (λ x. expression l n x) b.parts ∙ through b.used rest n (begin (sort_at l)) [] a.run a.stack a.is b.shallow
+    ap (λ x. expression l n x) b.parts ∙ through b.used rest n (begin (sort_at l)) [] a.run a.stack a.is (shallow_of l n b.used a.run a.stack a.is b.within)
     ∙ nests_there l n b.used a.run a.stack rest a.is b.deep
 
 pub breaks_at : (l : Level) (n : ℕ) (ts rest : List Seen) → expression l n ts ≡ Broken syntax rest → BreaksAt l n ts rest
@@ -379,14 +507,14 @@ breaks_at l n ts rest e =
       unfinished = λ u s.
           let c : expression l n ts ≡ cond (is_value (outcome (state u))) (Whole u o.rest) (Broken syntax o.rest) = h.2 ∙ ap (λ x. closed x o.rest) (closes_to l o.used u o.run o.stack s o.arrives) in
           let w : cond (is_value (outcome (state u))) (Whole u o.rest) (Broken syntax o.rest) ≡ Whole u o.rest = ap (λ x. cond (is_value x) (Whole u o.rest) (Broken syntax o.rest)) s.whole.whole in cc;
-      shallow = o.shallow;
-      next = subst (λ x. NextShallow l n o.used x) p h.1;
+      within = within_of l n o.used o.run o.stack o.arrives o.shallow;
+      next = subst (λ x. NextShallow n o.used x) p h.1;
     }
 
 pub breaks_so : (l : Level) (n : ℕ) (ts rest : List Seen) → BreaksAt l n ts rest → expression l n ts ≡ Broken syntax rest
 breaks_so l n ts rest b =
     let a = arrived l b.used b.begins in
-    ap (λ x. expression l n x) b.parts ∙ through b.used rest n (begin (sort_at l)) [] a.run a.stack a.is b.shallow
+    ap (λ x. expression l n x) b.parts ∙ through b.used rest n (begin (sort_at l)) [] a.run a.stack a.is (shallow_of l n b.used a.run a.stack a.is b.within)
     ∙ stays l n b.used a.run a.stack rest a.is b.further b.next
     ∙ not_whole l (close a.stack a.run) b.used (closed_walk l b.used a.run a.stack a.is) rest b.unfinished
 

@@ -52,7 +52,7 @@ abbrev IsBegun : Tree → Type 0
 IsBegun (begin s) = ⊥
 IsBegun c = Unit {0}
 
-led : (c : Tree) → Fits c → IsBegun c → is_unit (sort c) ≡ false → (m : List Seen) → Led c m
+pub led : (c : Tree) → Fits c → IsBegun c → is_unit (sort c) ≡ false → (m : List Seen) → Led c m
 led (begin s) f b u m = absurd b
 led (token (begin s) t) f b u m = record { first = t; rest = m; leads = refl; takes = f.1 }
 led (token (token c x) t) f b u m = let r = led (token c x) f.0 tt u (t ∷ m) in record { first = r.first; rest = r.rest; leads = r.leads; takes = r.takes }

@@ -1,10 +1,10 @@
 -- Reading one expression: which tokens spell one, where it ends, and where reading it is refused.
-use Rattle.std.specs.Prelude.{◌≡◌, ◌↔◌, ◌++◌, ℕ, List, [], ◌∷◌, Bool, true, false, cond}
+use Rattle.std.specs.Prelude.{◌≡◌, ◌≤◌, ◌↔◌, ◌++◌, ◌⊎◌, ℕ, List, [], ◌∷◌, Bool, true, false, cond, ◌&&◌, leb, length}
 use Rattle.l2_grammar.specs.States.{Level, comma_level, assignment_level, conditional_level, Sort, operand, Outcome, value}
 use Rattle.l2_grammar.specs.Nesting.{outcome, stands}
 use Rattle.l2_grammar.specs.Trees.{Seen, Tree, begin, child, spell, sort, state, Fits}
 use Rattle.l2_grammar.specs.Reader.{Next, Stop, To, step}
-use Rattle.l2_grammar.specs.Limits.{Rule, nesting, syntax, nests, brackets, deep_from}
+use Rattle.l2_grammar.specs.Limits.{Rule, nesting, syntax, opens_bracket, most, longest, brackets, nests}
 
 -- the sort of the expressions of a level
 abbrev pub sort_at : Level → Sort
@@ -34,39 +34,46 @@ abbrev pub NoneGoesOn : Level → List Seen → List Seen → Type 0
 NoneGoesOn l used [] = Unit {0}
 NoneGoesOn l used (t ∷ rest) = BeginsExpression l (used ++ (t ∷ [])) → ⊥
 
--- the token is too deep behind these, where so many brackets are open round the expression
-abbrev pub DeepBehind : Level → ℕ → List Seen → Seen → Type 0
-DeepBehind l n used t = deep_from used t n (begin (sort_at l)) [] ≡ true
+-- the brackets that are open behind these tokens, where so many are before them
+abbrev pub brackets_behind : ℕ → List Seen → ℕ
+brackets_behind n [] = n
+brackets_behind n (t ∷ ts) = brackets_behind (brackets n t.kind) ts
 
--- none of these tokens is too deep
-abbrev pub NoneDeepIn : Level → ℕ → List Seen → Type 0
-NoneDeepIn l n used = (before : List Seen) (t : Seen) (more : List Seen) → used ≡ before ++ (t ∷ more) → DeepBehind l n before t → ⊥
+-- the token opens a bracket where as many are open as may be
+abbrev pub DeepBracket : ℕ → List Seen → Seen → Type 0
+DeepBracket n used t = (opens_bracket t.kind && leb most (brackets_behind n used)) ≡ true
 
--- the next token is too deep, or isn't
+-- these tokens are no more than an expression may have, and open no bracket too deep
+pub record Within (n : ℕ) (used : List Seen) : Type 0 where
+  pub short : length used ≤ longest
+  pub shallow : (before : List Seen) (t : Seen) (more : List Seen) → used ≡ before ++ (t ∷ more) → DeepBracket n before t → ⊥
+
+-- the next token is too deep: such a bracket, or one more of the expression than it may have
 abbrev pub NextDeep : Level → ℕ → List Seen → List Seen → Type 0
 NextDeep l n used [] = ⊥
-NextDeep l n used (t ∷ rest) = DeepBehind l n used t
+NextDeep l n used (t ∷ rest) = DeepBracket n used t ⊎ ((length used ≡ longest) × BeginsExpression l (used ++ (t ∷ [])))
 
-abbrev pub NextShallow : Level → ℕ → List Seen → List Seen → Type 0
-NextShallow l n used [] = Unit {0}
-NextShallow l n used (t ∷ rest) = DeepBehind l n used t → ⊥
+-- the next token opens no bracket too deep
+abbrev pub NextShallow : ℕ → List Seen → List Seen → Type 0
+NextShallow n used [] = Unit {0}
+NextShallow n used (t ∷ rest) = DeepBracket n used t → ⊥
 
--- the longest expression with which these tokens begin, where none is too deep up to that behind it
+-- the longest expression with which these tokens begin, within the limits, and no bracket too deep behind it
 pub record EndsBefore (l : Level) (n : ℕ) (ts : List Seen) (r : Tree) (rest : List Seen) : Type 0 where
   pub used : List Seen
   pub parts : ts ≡ used ++ rest
   pub spells : SpellsExpression l used r
   pub further : NoneGoesOn l used rest
-  pub shallow : NoneDeepIn l n used
-  pub next : NextShallow l n used rest
+  pub within : Within n used
+  pub next : NextShallow n used rest
 
--- some expression begins with the tokens before this rest, and its first token is the first that is too deep
+-- some expression begins with the tokens before this rest, within the limits, and the next token is too deep
 pub record NestsAt (l : Level) (n : ℕ) (ts rest : List Seen) : Type 0 where
   pub used : List Seen
   pub parts : ts ≡ used ++ rest
   pub begins : BeginsExpression l used
   pub deep : NextDeep l n used rest
-  pub shallow : NoneDeepIn l n used
+  pub within : Within n used
 
 -- some expression begins with the tokens before this rest, none with one more, and they are no whole expression
 pub record BreaksAt (l : Level) (n : ℕ) (ts rest : List Seen) : Type 0 where
@@ -75,8 +82,8 @@ pub record BreaksAt (l : Level) (n : ℕ) (ts rest : List Seen) : Type 0 where
   pub begins : BeginsExpression l used
   pub further : NoneGoesOn l used rest
   pub unfinished : (r : Tree) → SpellsExpression l used r → ⊥
-  pub shallow : NoneDeepIn l n used
-  pub next : NextShallow l n used rest
+  pub within : Within n used
+  pub next : NextShallow n used rest
 
 -- the outermost construct, once all in it have ended
 abbrev pub close : List Tree → Tree → Next
