@@ -13,3 +13,5 @@ pub mod Complete
 pub mod Kept
 pub mod Reading
 pub mod Limits
+pub mod Lengths
+pub mod Expressions

@@ -3,3 +3,4 @@ pub mod Stepping
 pub mod Counting
 pub mod Rooms
 pub mod Refusals
+pub mod Turning

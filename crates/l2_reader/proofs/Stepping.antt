@@ -25,10 +25,10 @@ step_begins [] r t e b = cond_false (takes (sort r) (state r) t.kind) _ _ e ∙ 
 step_begins (p ∷ ks) r t e b = cond_false (takes (sort r) (state r) t.kind) _ _ e ∙ cond_true (begins (sort r) (state r) t.kind) _ _ b
 
 -- the same by the sort and the state that the code keeps
-takes_of : (o : Open) (t : Token) (b : Bool) → Sound o → takes o.sort o.state t.kind ≡ b → takes (sort (tree_of o)) (state (tree_of o)) t.kind ≡ b
+pub takes_of : (o : Open) (t : Token) (b : Bool) → Sound o → takes o.sort o.state t.kind ≡ b → takes (sort (tree_of o)) (state (tree_of o)) t.kind ≡ b
 takes_of o t b s h = ap (λ x. takes x (state (tree_of o)) t.kind) s.sorted ∙ ap (λ q. takes o.sort q t.kind) s.stated ∙ h
 
-begins_of : (o : Open) (t : Token) (b : Bool) → Sound o → begins o.sort o.state t.kind ≡ b → begins (sort (tree_of o)) (state (tree_of o)) t.kind ≡ b
+pub begins_of : (o : Open) (t : Token) (b : Bool) → Sound o → begins o.sort o.state t.kind ≡ b → begins (sort (tree_of o)) (state (tree_of o)) t.kind ≡ b
 begins_of o t b s h = ap (λ x. begins x (state (tree_of o)) t.kind) s.sorted ∙ ap (λ q. begins o.sort q t.kind) s.stated ∙ h
 
 token_state : (o : Open) (t : Token) → Sound o → state (token (tree_of o) (seen t)) ≡ on_token o.sort o.state t.kind

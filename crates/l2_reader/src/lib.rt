@@ -2,6 +2,7 @@
 #![tactic(auto)]
 
 mod error;
+mod expressions;
 mod limits;
 mod reader;
 mod stack;
@@ -11,6 +12,7 @@ mod syntax;
 mod tests;
 
 pub use error::{ParseError, ReadError};
+pub use expressions::expression;
 pub use reader::{Progress, read};
 pub use stack::{Counts, Stack};
 pub use syntax::{Open, Syntax};

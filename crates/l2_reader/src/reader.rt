@@ -1,16 +1,17 @@
-ghost use Rattle.std.specs.Prelude.{◌≡◌, ◌≢◌, ◌+◌, ◌<◌, ◌^◌, List, ◌∷◌, [], map, drop, length, IfOk, IfErr};
+ghost use Rattle.std.specs.Prelude.{◌≡◌, ◌≢◌, ◌+◌, ◌<◌, ◌^◌, List, ◌∷◌, [], map, drop, length, IfOk, IfErr, false, true};
 ghost use Rattle.l2_grammar.specs.Trees.{Seen};
 ghost use Rattle.l2_grammar.specs.Law.{Spells};
 ghost use Rattle.l2_grammar.specs.Limits.{Read, Refused, reading, Shallow};
 ghost use Rattle.l2_grammar.specs.Reader.{finish as finished_as, Reads, Stops};
 ghost use Rattle.l2_reader.specs.Parts.{seen, tree_of, Sound};
 ghost use Rattle.l2_reader.specs.Stacks.{trees_of};
+ghost use Rattle.l2_reader.specs.Turns.{too_deep, Advances};
 ghost use Rattle.l2_reader.specs.Readings.{is_end, rule_for, rule_of, place_of, InText, IsRefusal, Steady, count_of, read_from};
 
 use crate::error::{ParseError, ReadError};
 use crate::limits::{brackets_behind, exceeds, is_bracket_too_deep};
 use crate::stack::Stack;
-use crate::steps::step;
+use crate::steps::{Turned, turn};
 use crate::syntax::{Open, empty};
 use l2_grammar::{Sort, State};
 use l2_syntax::Token;
@@ -25,6 +26,42 @@ pub struct Progress {
 }
 
 /// What a token does within the limits.
+#[derive(Drop)]
+pub enum Advance {
+    /// Reading goes on.
+    Further(Progress),
+    /// It goes on with none of the constructs: the outermost, if all in it can end.
+    Ended(Option<Open>),
+}
+
+/// What a token does within the limits; the error is that it is too deep.
+pub fn pass(alloc: Global, progress: Progress, token: Token) -> Result<Advance, ReadError>
+    requires steady { Steady progress }
+    requires room { count_of progress + 1 < 2 ^ 64 }
+    ensures ok { IfOk result (λ r. (too_deep progress token ≡ false) × Advances progress token r) }
+    ensures deep { IfErr result (λ f. f ≢ ReadError.NoMemory → too_deep progress token ≡ true) }
+    ensures limits { IfErr result (λ f. f ≢ ReadError.Syntax) }
+{
+    if is_bracket_too_deep(progress.brackets, token.kind) {
+        return Err(ReadError::Nesting);
+    }
+    let brackets = brackets_behind(progress.brackets, token.kind);
+    match turn(alloc, progress.run, progress.stack, token) {
+        Ok(Turned::Further(run, stack)) => if exceeds(&run, &stack) {
+            Err(ReadError::Nesting)
+        } else {
+            Ok(Advance::Further(Progress {
+                run,
+                stack,
+                brackets,
+            }))
+        },
+        Ok(Turned::Halted(whole)) => Ok(Advance::Ended(whole)),
+        Err(f) => Err(f),
+    }
+}
+
+/// How far reading a unit has come behind a token.
 pub fn advanced(alloc: Global, progress: Progress, token: Token) -> Result<Progress, ReadError>
     requires steady { Steady progress }
     requires room { count_of progress + 1 < 2 ^ 64 }
@@ -33,20 +70,9 @@ pub fn advanced(alloc: Global, progress: Progress, token: Token) -> Result<Progr
     ensures ok { IfOk result (λ r. (ts : List Seen) → read_from progress (seen token ∷ ts) ≡ read_from r ts) }
     ensures err { IfErr result (λ f. f ≢ ReadError.NoMemory → (ts : List Seen) → read_from progress (seen token ∷ ts) ≡ Refused (rule_for f) (seen token ∷ ts)) }
 {
-    if is_bracket_too_deep(progress.brackets, token.kind) {
-        return Err(ReadError::Nesting);
-    }
-    let brackets = brackets_behind(progress.brackets, token.kind);
-    match step(alloc, progress.run, progress.stack, token) {
-        Ok((run, stack)) => if exceeds(&run, &stack) {
-            Err(ReadError::Nesting)
-        } else {
-            Ok(Progress {
-                run,
-                stack,
-                brackets,
-            })
-        },
+    match pass(alloc, progress, token) {
+        Ok(Advance::Further(next)) => Ok(next),
+        Ok(Advance::Ended(_)) => Err(ReadError::Syntax),
         Err(f) => Err(f),
     }
 }
@@ -74,7 +100,7 @@ fn finish(run: Open, stack: Stack, at: usize) -> Result<Open, ParseError>
     }
 }
 
-fn failed(cause: ReadError, at: usize) -> ParseError
+pub fn failed(cause: ReadError, at: usize) -> ParseError
     ensures no_memory { cause ≡ ReadError.NoMemory → result ≡ ParseError.NoMemory }
     ensures rule { rule_of result ≡ rule_for cause }
     ensures place { cause ≢ ReadError.NoMemory → place_of result ≡ at }
