@@ -23,8 +23,8 @@ use Rattle.l2_tree.specs.declared.unit.External.{External}
 use Rattle.l2_tree.specs.declared.unit.External.TheVariants as external
 use Rattle.l2_tree.specs.Trees.{EnumeratorTree, Plain, EnumeratorTrees, no_enumerators, and_enumerator, no_specifiers, InitialiserTrees, no_initialisers, and_initialiser, DeclaredTree, Uninitialised, DeclaredTrees, no_declarators, and_declarator, no_declarations, no_stmts, Struct, Enum}
 use Rattle.l2_tree.specs.Units as units
-use Rattle.l2_tree.specs.Units.{enumerator_tree, declarator_tree, initialiser_tree, declared_tree, external_tree}
-use Rattle.l2_tree.specs.Spelling.{behind, within, closed, mark_at, tag_onto, specifier_onto, specifiers_onto, members_onto, enumerators_onto, run_declarator, initialisers_onto, run_initialiser, declarators_onto, stmts_onto, run_external}
+use Rattle.l2_tree.specs.Units.{enumerator_tree, declarator_tree, initialiser_tree, declared_tree, declaration_tree, external_tree}
+use Rattle.l2_tree.specs.Spelling.{behind, within, closed, mark_at, tag_onto, specifier_onto, specifiers_onto, members_onto, enumerators_onto, run_declarator, initialisers_onto, run_initialiser, declarators_onto, stmts_onto, declaration_onto, run_external}
 use Rattle.l2_declaration_forms.specs.declared.form.Storing.{Storing}
 use Rattle.l2_declaration_forms.specs.declared.form.Storing.TheVariants as storing
 use Rattle.l2_declaration_forms.specs.declared.form.TypeSoFar.{TypeSoFar}
@@ -149,11 +149,16 @@ braces_tree s (braces.More p is last) = initialisers_onto (mark_at (begin s) mar
 braces_tree s (braces.Next p is last) = closed (initialisers_onto (mark_at (begin s) mark.OpenBrace p) (some_initialisers is.items last)) mark.Comma
 braces_tree s (braces.Whole i) = run_initialiser s (initialiser_tree i)
 
+-- a whole declaration here, and a typedef, a function or `;`
+abbrev pub whole_tree : Sort → External → Tree
+whole_tree s (external.Declaration d) = declaration_onto (begin s) (declaration_tree d)
+whole_tree s x = run_external s (external_tree x)
+
 abbrev pub tree_of : Sort → DeclarationForm → Tree
 tree_of s (form.Specifiers x) = specifiers_tree s x
 tree_of s (form.Declarators x) = declarators_tree s x
 tree_of s (form.Function xs d p ss) = stmts_onto (mark_at (within (specifiers_onto (begin s) (units.specifiers_onto no_specifiers xs.items)) (λ z. run_declarator z (declarator_tree d))) mark.OpenBrace p) (units.stmts_onto no_stmts ss.items)
-tree_of s (form.Whole x) = run_external s (external_tree x)
+tree_of s (form.Whole x) = whole_tree s x
 tree_of s (form.Braces x) = braces_tree s x
 
 -- ---- where a form may stand

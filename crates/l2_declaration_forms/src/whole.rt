@@ -3,10 +3,10 @@ ghost use Rattle.std.specs.Prelude.{◌≡◌, true, false, IfOk, IfErr};
 ghost use Rattle.l2_grammar.specs.Nesting.{outcome, is_external};
 ghost use Rattle.l2_grammar.specs.Trees.{begin as begins};
 ghost use Rattle.l2_grammar.specs.declared.states.Outcome.TheVariants.{Value as value, Declaration as declaration, Specified as type};
-ghost use Rattle.l2_tree.specs.Spelling.{specifiers_onto, run_external, run_parameter, run_initialiser, declaration_onto, specifier_onto};
+ghost use Rattle.l2_tree.specs.Spelling.{specifiers_onto, run_parameter, run_initialiser, declaration_onto, specifier_onto};
 ghost use Rattle.l2_tree.specs.Trees.{no_specifiers};
-ghost use Rattle.l2_tree.specs.Units.{declaration_tree, external_tree, parameter_tree, initialiser_tree, specifier_tree, specifiers_onto as specifier_trees};
-ghost use Rattle.l2_declaration_forms.specs.Forms.{state_of, front_tree, tree_of, suits, may, is_parameter};
+ghost use Rattle.l2_tree.specs.Units.{declaration_tree, parameter_tree, initialiser_tree, specifier_tree, specifiers_onto as specifier_trees};
+ghost use Rattle.l2_declaration_forms.specs.Forms.{state_of, front_tree, tree_of, whole_tree, suits, may, is_parameter};
 
 use crate::form::{BracesForm, DeclarationForm, DeclaratorsForm, Front, SpecifiersForm, Storing};
 use crate::front::with_specifier;
@@ -20,7 +20,7 @@ use l2_tree::{Declaration, External, Initialiser, Parameter, Specifier};
 pub fn external_of(sort: Sort, form: DeclarationForm) -> External
     requires whole { outcome (state_of form) ≡ declaration }
     ensures form { form ≡ DeclarationForm.Whole result }
-    ensures tree { tree_of sort form ≡ run_external sort (external_tree result) }
+    ensures tree { tree_of sort form ≡ whole_tree sort result }
 {
     let _ = sort;
     match form {

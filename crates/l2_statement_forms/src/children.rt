@@ -11,7 +11,7 @@ use crate::built::{chosen, chosen_or, pushed, whole};
 use crate::error::FormError;
 use crate::form::{Chain, Ending, Head, HeadWord, StatementForm, SwitchLabel};
 use l2_grammar::Sort;
-use l2_tree::{Branch, Declaration, Expr, First, Stmt};
+use l2_tree::{Branch, Declaration, Expr, First, Stmt, item_of};
 use std::alloc::Global;
 
 /// A form behind an expression that stands in it: a test, a part of a `for`, the value of a `case` or of a `return`.
@@ -65,6 +65,22 @@ pub fn with_expr(sort: Sort, form: StatementForm, value: Expr) -> StatementForm
     }
 }
 
+/// A block behind a declaration that stands in it.
+fn block_with(
+    sort: Sort,
+    place: Place,
+    items: Vec<Stmt>,
+    declared: Declaration,
+) -> Result<StatementForm, FormError>
+    ensures state { IfOk result (λ f. state_of f ≡ State.Block) }
+    ensures tree { IfOk result (λ f. tree_of sort f ≡ within (tree_of sort (StatementForm.Block place items)) (λ z. declaration_onto (begin z) (declaration_tree declared))) }
+    ensures err { IfErr result (λ f. f ≡ FormError.NoMemory) }
+{
+    let _ = sort;
+    let items = pushed(items, item_of(declared))?;
+    Ok(StatementForm::Block(place, items))
+}
+
 /// A form behind a declaration that stands in it: an item of a block, or the first part of a `for`.
 #[tactic(auto, unfolding(l2_grammar::specs::Nesting::on_child, l2_grammar::specs::Nesting::stands))]
 pub fn with_declaration(
@@ -78,10 +94,7 @@ pub fn with_declaration(
     ensures err { IfErr result (λ f. f ≡ FormError.NoMemory) }
 {
     match form {
-        StatementForm::Block(place, items) => Ok(StatementForm::Block(
-            place,
-            pushed(items, Stmt::Declaration(declared))?,
-        )),
+        StatementForm::Block(place, items) => block_with(sort, place, items, declared),
         StatementForm::ForInit(place, bracket) => Ok(StatementForm::ForSecond(
             place,
             bracket,

@@ -6,3 +6,4 @@ pub mod InverseStatements
 pub mod Declarations
 pub mod Expressions
 pub mod Statements
+pub mod Alone

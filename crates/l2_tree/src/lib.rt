@@ -2,12 +2,14 @@
 //! each token but closing brackets, commas, colons, semicolons, `else` and the end of the text.
 #![tactic(auto)]
 
+mod declared;
 mod expression;
 mod laws;
 mod operators;
 mod statement;
 mod unit;
 
+pub use declared::{global_of, item_of};
 pub use expression::{
     Core, Declaration, Declarator, Declared, Enumerator, Expr, Initialiser, Parameter, Pointer,
     Specifier, Suffix, Tag,
