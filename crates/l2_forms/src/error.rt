@@ -1,3 +1,4 @@
+use std::alloc::{AllocError, AllocFailed};
 use thiserror::Error;
 
 /// Why a tree isn't made.
@@ -8,9 +9,31 @@ pub enum FormError {
     NoMemory,
 }
 
-impl From<l2_expression_forms::FormError> for FormError {
-    ghost use Rattle.l2_forms.specs.declared.error.FormError.TheVariants.{NoMemory};
+impl From<AllocError> for FormError {
     ghost use Rattle.std.specs.Prelude.{◌≡◌};
+    ghost use Rattle.l2_forms.specs.declared.error.FormError.TheVariants.{NoMemory};
+
+    ghost from_gives = { λ _ e. e ≡ NoMemory };
+
+    fn from(_e: AllocError) -> FormError {
+        FormError::NoMemory
+    }
+}
+
+impl<T: Drop> From<AllocFailed<T>> for FormError {
+    ghost use Rattle.std.specs.Prelude.{◌≡◌};
+    ghost use Rattle.l2_forms.specs.declared.error.FormError.TheVariants.{NoMemory};
+
+    ghost from_gives = { λ _ e. e ≡ NoMemory };
+
+    fn from(_e: AllocFailed<T>) -> FormError {
+        FormError::NoMemory
+    }
+}
+
+impl From<l2_expression_forms::FormError> for FormError {
+    ghost use Rattle.std.specs.Prelude.{◌≡◌};
+    ghost use Rattle.l2_forms.specs.declared.error.FormError.TheVariants.{NoMemory};
 
     ghost from_gives = { λ _ e. e ≡ NoMemory };
 
@@ -20,12 +43,23 @@ impl From<l2_expression_forms::FormError> for FormError {
 }
 
 impl From<l2_statement_forms::FormError> for FormError {
-    ghost use Rattle.l2_forms.specs.declared.error.FormError.TheVariants.{NoMemory};
     ghost use Rattle.std.specs.Prelude.{◌≡◌};
+    ghost use Rattle.l2_forms.specs.declared.error.FormError.TheVariants.{NoMemory};
 
     ghost from_gives = { λ _ e. e ≡ NoMemory };
 
     fn from(_e: l2_statement_forms::FormError) -> FormError {
+        FormError::NoMemory
+    }
+}
+
+impl From<l2_declarator_forms::FormError> for FormError {
+    ghost use Rattle.std.specs.Prelude.{◌≡◌};
+    ghost use Rattle.l2_forms.specs.declared.error.FormError.TheVariants.{NoMemory};
+
+    ghost from_gives = { λ _ e. e ≡ NoMemory };
+
+    fn from(_e: l2_declarator_forms::FormError) -> FormError {
         FormError::NoMemory
     }
 }

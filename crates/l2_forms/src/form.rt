@@ -1,5 +1,7 @@
+use l2_declaration_forms::DeclarationForm;
 use l2_declarator_forms::DeclaratorForm;
 use l2_expression_forms::ExprForm;
+use l2_grammar::{Sort, State};
 use l2_statement_forms::StatementForm;
 use l2_tree::External;
 
@@ -15,4 +17,13 @@ pub enum Form {
     Expression(ExprForm),
     Statement(StatementForm),
     Declarator(DeclaratorForm),
+    Declaration(DeclarationForm),
+}
+
+/// A construct as far as it has been read: what may stand at its place, how far it is, and what it is so far.
+#[derive(Drop)]
+pub struct Construct {
+    pub sort: Sort,
+    pub state: State,
+    pub form: Form,
 }

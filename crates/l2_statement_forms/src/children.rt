@@ -11,6 +11,7 @@ use crate::built::{chosen, chosen_or, pushed, whole};
 use crate::error::FormError;
 use crate::form::{Chain, Ending, Head, HeadWord, StatementForm, SwitchLabel};
 use l2_grammar::Sort;
+use l2_syntax::Place;
 use l2_tree::{Branch, Declaration, Expr, First, Stmt, item_of};
 use std::alloc::Global;
 
