@@ -2,6 +2,10 @@
 ghost use Rattle.std.specs.Prelude.{◌≡◌, IfOk, IfErr, true, false};
 ghost use Rattle.l2_grammar.specs.Nesting.{stands as may_stand, on_child as behind_child, opens as opened, outcome as outcome_of, is_external as is_external_place};
 ghost use Rattle.l2_grammar.specs.Trees.{child as then_child};
+ghost use Rattle.l2_expression_forms.specs.Forms.{state_of as expression_state, tree_of as expression_tree};
+ghost use Rattle.l2_declaration_forms.specs.Forms.{whole_tree};
+ghost use Rattle.l2_tree.specs.Units.{external_tree};
+ghost use Rattle.l2_tree.specs.Spelling.{run_external};
 ghost use Rattle.l2_forms.specs.Forms.{state_of, tree_of, tree, may, Ready};
 
 use crate::behind::{
@@ -19,6 +23,36 @@ use l2_statement_forms as statements;
 use l2_tree::{External, global_of};
 use std::alloc::Global;
 
+/// Behind an expression, or the name of a type behind `sizeof`.
+#[tactic(auto, unfolding(l2_grammar::specs::Nesting::outcome), using(crate::proofs::Links::linked))]
+fn behind_expression(
+    alloc: Global,
+    outer: Construct,
+    place: Sort,
+    inner: ExprForm,
+) -> Result<Form, FormError>
+    requires outer { Ready outer }
+    requires place { opened outer.sort outer.state ≡ place }
+    requires standing { may_stand place (expression_state inner) ≡ true }
+    requires whole { outcome_of (expression_state inner) ≡ Outcome.Value }
+    requires stands { may_stand outer.sort (behind_child outer.sort outer.state Outcome.Value) ≡ true }
+    ensures state { IfOk result (λ f. state_of f ≡ behind_child outer.sort outer.state Outcome.Value) }
+    ensures tree { IfOk result (λ f. tree_of outer.sort f ≡ then_child (tree outer) (expression_tree place inner)) }
+    ensures may { IfOk result (λ f. may outer.sort f ≡ true) }
+{
+    match inner {
+        ExprForm::Whole(_, value) => with_expr(alloc, outer.sort, outer.form, place, value),
+        ExprForm::Sized(parenthesis, named) => with_sized(
+            alloc,
+            outer.sort,
+            outer.form,
+            parenthesis,
+            named,
+        ),
+        _ => unreachable!(),
+    }
+}
+
 /// Behind an expression, or an initialiser in braces.
 #[tactic(auto, using(crate::proofs::Links::value))]
 fn behind_value(alloc: Global, outer: Construct, inner: Construct) -> Result<Form, FormError>
@@ -33,13 +67,7 @@ fn behind_value(alloc: Global, outer: Construct, inner: Construct) -> Result<For
     ensures may { IfOk result (λ f. may outer.sort f ≡ true) }
 {
     match inner.form {
-        Form::Expression(ExprForm::Whole(_, value)) => with_expr(
-            alloc, outer.sort, outer.form, inner.sort, value,
-        ),
-        Form::Expression(ExprForm::Sized(place, named)) => with_sized(
-            alloc, outer.sort, outer.form, place, named,
-        ),
-        Form::Expression(_) => unreachable!(),
+        Form::Expression(f) => behind_expression(alloc, outer, inner.sort, f),
         Form::Declaration(f) => {
             let value = declarations::initialiser_of(inner.sort, f);
             with_initialiser(alloc, outer.sort, outer.form, value)
@@ -90,7 +118,9 @@ fn is_external(sort: Sort) -> bool
 }
 
 /// An external, where a declaration of nothing at all is a `;`.
-fn settled(external: External) -> External {
+fn settled(external: External) -> External
+    ensures { (s : Sort) → run_external s (external_tree result) ≡ whole_tree s external }
+{
     match external {
         External::Declaration(declaration) => global_of(declaration),
         other => other,
