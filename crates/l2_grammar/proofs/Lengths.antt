@@ -90,7 +90,7 @@ level_expression assignment_level q h = operand_expression 2 q h
 level_expression conditional_level q h = operand_expression 3 q h
 
 -- counts of tokens
-spell_size : (r : Tree) (m : List Seen) → length (spell r m) ≡ size r + length m
+pub spell_size : (r : Tree) (m : List Seen) → length (spell r m) ≡ size r + length m
 spell_size (begin s) m = omega arith
 spell_size (token a t) m = let e = spell_size a (t ∷ m) in omega arith
 spell_size (child a b) m = let e = spell_size a (spell b m) in let f = spell_size b m in omega arith

@@ -14,4 +14,5 @@ pub mod Kept
 pub mod Reading
 pub mod Limits
 pub mod Lengths
+pub mod Walks
 pub mod Expressions

@@ -44,7 +44,7 @@ same_length used more rest t e =
     let c : length rest ≡ length (used ++ (t ∷ (more ++ rest))) = ap (λ x. length x) e in
     omega arith
 
-head_is : (x t : Seen) (xs ts : List Seen) → x ∷ xs ≡ t ∷ ts → (x ≡ t) × (xs ≡ ts)
+pub head_is : (x t : Seen) (xs ts : List Seen) → x ∷ xs ≡ t ∷ ts → (x ≡ t) × (xs ≡ ts)
 head_is x t xs ts e = (cc, cc)
 
 shallow_from : (ts : List Seen) (n : ℕ) (r : Tree) (ks : List Tree) → NoneDeep ts (Left (read_on ts n r ks)) n r ks

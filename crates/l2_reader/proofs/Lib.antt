@@ -4,3 +4,4 @@ pub mod Counting
 pub mod Rooms
 pub mod Refusals
 pub mod Turning
+pub mod Sizes

@@ -26,6 +26,10 @@ pub ok_map : {A E : Type 0} (x : Result A E) {P Q : A → Type 0} → ((a : A) �
 ok_map (Ok a) f h = f a h
 ok_map (Err e) f h = tt
 
+pub ok_all : {A E : Type 0} (x : Result A E) {P Q R S : A → Type 0} → ((a : A) → P a → Q a → R a → S a) → IfOk x P → IfOk x Q → IfOk x R → IfOk x S
+ok_all (Ok a) f p q r = f a p q r
+ok_all (Err e) f p q r = tt
+
 pub err_map : {A E : Type 0} (x : Result A E) {P Q : E → Type 0} → ((e : E) → P e → Q e) → IfErr x P → IfErr x Q
 err_map (Ok a) f h = tt
 err_map (Err e) f h = f e h

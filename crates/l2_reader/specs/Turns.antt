@@ -1,5 +1,5 @@
 -- What a token does: a construct goes on or begins, or the outermost is ended.
-use Rattle.std.specs.Prelude.{◌≡◌, ◌+◌, ◌≤◌, ℕ, List, [], ◌∷◌, Bool, true, false, Option, None, Some, map, drop, length}
+use Rattle.std.specs.Prelude.{◌≡◌, ◌+◌, ◌≤◌, ◌<◌, ℕ, List, [], ◌∷◌, Bool, true, false, Option, None, Some, map, drop, length}
 use Rattle.l2_syntax.specs.declared.token.Token.{Token}
 use Rattle.l2_grammar.specs.declared.states.Level.{Level}
 use Rattle.l2_grammar.specs.Trees.{Seen, Tree}
@@ -58,7 +58,7 @@ seen_from i ts = map seen (drop i ts)
 
 -- the index is that of a token from this one on, or at most behind the last
 abbrev pub InRest : ℕ → List Token → ParseError → Type 0
-InRest at ts (Nesting i) = (at ≤ i) × (i ≤ length ts)
+InRest at ts (Nesting i) = (at ≤ i) × (i < length ts)
 InRest at ts (Syntax i) = (at ≤ i) × (i ≤ length ts)
 InRest at ts NoMemory = Unit {0}
 

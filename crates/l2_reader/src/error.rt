@@ -6,7 +6,7 @@ pub enum ReadError {
     /// It is too deep, or makes an expression too long.
     #[error("too deep")]
     Nesting,
-    /// No unit goes on so.
+    /// No construct goes on so.
     #[error("no unit goes on so")]
     Syntax,
     /// There was no memory left.
@@ -20,7 +20,7 @@ pub enum ParseError {
     /// This token is the first that is too deep.
     #[error("too deep")]
     Nesting(usize),
-    /// No unit goes on with this token, or behind the last.
+    /// No unit, or no expression where one is read, goes on with this token, or behind the last.
     #[error("no unit goes on so")]
     Syntax(usize),
     /// There was no memory left.

@@ -159,6 +159,7 @@ pub fn expression(
     ensures ok { IfOk result (λ r. EndsBefore level depth (seen_from at tokens.now) (tree_of r.0) (seen_from r.1 tokens.now)) }
     ensures sound { IfOk result (λ r. Sound r.0) }
     ensures range { IfOk result (λ r. (at < r.1) × (r.1 ≤ length tokens.now)) }
+    ensures size { IfOk result (λ r. r.0.size + at ≡ r.1) }
     ensures err { IfErr result (λ f. IsExpressionRefusal level depth tokens.now at f) }
     ensures text { IfErr result (λ f. InRest at tokens.now f) }
     ensures read { IfOk result (λ r. reading_of level depth (seen_from at tokens.now) ≡ Whole (tree_of r.0) (seen_from r.1 tokens.now)) }
