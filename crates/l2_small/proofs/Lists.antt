@@ -1,5 +1,5 @@
 -- Lists of the whole grammar that the small form wants to have no element, or one alone.
-use Rattle.std.proofs.Common.{◌≡◌, ◌≢◌, ℕ, List, [], ◌∷◌, length, get_or, Option, Some, None, refl, ap, sym, ◌∙◌, arith}
+use Rattle.std.proofs.Common.{◌≡◌, ◌≢◌, ℕ, List, [], ◌∷◌, length, get_or, Some, None, refl, ap, sym, ◌∙◌, arith}
 use Rattle.std.specs.Prelude.{option_map}
 use Rattle.l2_syntax.specs.declared.place.Place.{Place}
 use Rattle.l2_syntax.specs.declared.token.Name.{Name as NameText}

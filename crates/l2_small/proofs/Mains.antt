@@ -1,5 +1,5 @@
 -- The one external of a text, and the parts of its declarator.
-use Rattle.std.proofs.Common.{◌≡◌, ◌≢◌, ℕ, Bool, false, List, [], ◌∷◌, length, get_or, map, Option, None, refl, ap, sym, ◌∙◌, arith}
+use Rattle.std.proofs.Common.{◌≡◌, ◌≢◌, ℕ, false, List, [], ◌∷◌, length, get_or, map, None, refl, ap, sym, ◌∙◌, arith}
 use Rattle.std.specs.Prelude.{◌&&◌, if◌then◌else◌, Some}
 use Rattle.std.specs.declared.vec.Vec.{Vec}
 use Rattle.std.specs.declared.alloc.Global.{Global}
@@ -14,7 +14,7 @@ use Rattle.l2_tree.specs.declared.expression.Suffix as suffix
 use Rattle.l2_tree.specs.declared.expression.Suffix.{Suffix}
 use Rattle.l2_tree.specs.declared.unit.External.{External}
 use Rattle.l2_tree.specs.Trees.{no_specifiers, ParameterTree, ParameterTrees, no_parameters, and_parameter, DeclaratorTree, Declarator, CoreTree, Absent, Named, Group, SuffixTree, SuffixTrees, no_suffixes, and_suffix}
-use Rattle.l2_tree.specs.Units.{specifiers_onto, parameter_tree, parameters_onto, suffix_tree, suffixes_onto, declarator_tree, external_tree}
+use Rattle.l2_tree.specs.Units.{specifiers_onto, parameter_tree, parameters_onto, suffix_tree, suffixes_onto, external_tree}
 use Rattle.l2_tree.proofs.Declarations.{core_tree-Group, suffix_tree-Parameters, parameter_tree-Plain, parameter_tree-Declared}
 use Rattle.l2_small.specs.Words.{is_main}
 use Rattle.l2_small.specs.SmallForm.{word_alone, is_void, is_nothing, takes_nothing, main_place, small_external, small_externals}

@@ -1,6 +1,6 @@
 -- The small form of C: which trees of the whole grammar are of it, and what the tree of such a text is. Each line is a form; every
 -- other tree has none.
-use Rattle.std.specs.Prelude.{ℕ, Bool, true, false, ◌&&◌, if◌then◌else◌, List, [], ◌∷◌, Option, Some, None, option_map}
+use Rattle.std.specs.Prelude.{Bool, true, false, ◌&&◌, if◌then◌else◌, List, [], ◌∷◌, Option, Some, None, option_map}
 use Rattle.l2_syntax.specs.declared.place.Place.{Place}
 use Rattle.l2_syntax.specs.declared.token.Name.{Name as NameText}
 use Rattle.l2_syntax.specs.declared.token.Scalar.{Scalar}

@@ -1,4 +1,4 @@
-use Rattle.std.proofs.Common.{◌≡◌, ◌+◌, suc, arith, sym, ap, ◌∙◌, Some, None, drop}
+use Rattle.std.proofs.Common.{◌≡◌, ◌+◌, suc, arith, sym, ap, ◌∙◌, Some, drop}
 use Rattle.l2_tree.specs.Trees.{no_stmts, no_branches}
 use Rattle.l2_tree.specs.Units.{stmt_tree, stmts_onto, branches_onto}
 use Rattle.l2_small.specs.SmallTrees.{none, also, small_stmt_tree, small_stmts_onto}
