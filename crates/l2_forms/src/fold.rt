@@ -117,12 +117,12 @@ fn folded(alloc: Global, sort: Sort, parts: &[Syntax]) -> Result<Construct, Form
 }
 
 /// The parts of a text that was read.
-pub fn externals(alloc: Global, open: &Open) -> Result<Vec<External>, FormError>
-    requires unit { IsUnit (open_tree open.now) }
-    requires keeps { Keeps (open_tree open.now) }
-    ensures { IfOk result (λ xs. run_unit (map external_tree xs.items) ≡ open_tree open.now) }
+pub fn externals(alloc: Global, text: &Open) -> Result<Vec<External>, FormError>
+    requires unit { IsUnit (open_tree text.now) }
+    requires keeps { Keeps (open_tree text.now) }
+    ensures { IfOk result (λ xs. run_unit (map external_tree xs.items) ≡ open_tree text.now) }
 {
-    let whole = folded(alloc, open.sort, &open.parts)?;
+    let whole = folded(alloc, text.sort, &text.parts)?;
     match whole.form {
         Form::Whole(parts) => Ok(parts),
         Form::Fresh => unreachable!(),

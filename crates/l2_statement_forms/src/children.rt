@@ -10,7 +10,7 @@ ghost use Rattle.l2_statement_forms.specs.Forms.{state_of, tree_of, head_tree, i
 use crate::built::{chosen, chosen_or, pushed, whole};
 use crate::error::FormError;
 use crate::form::{Chain, Ending, Head, HeadWord, StatementForm, SwitchLabel};
-use l2_grammar::Sort;
+use l2_grammar::{Sort, State};
 use l2_syntax::Place;
 use l2_tree::{Branch, Declaration, Expr, First, Stmt, item_of};
 use std::alloc::Global;
