@@ -66,10 +66,11 @@ fn behind_value(alloc: Global, outer: Construct, inner: Construct) -> Result<For
     ensures tree { IfOk result (λ f. tree_of outer.sort f ≡ then_child (tree outer) (tree inner)) }
     ensures may { IfOk result (λ f. may outer.sort f ≡ true) }
 {
+    let place = inner.sort;
     match inner.form {
-        Form::Expression(f) => behind_expression(alloc, outer, inner.sort, f),
+        Form::Expression(f) => behind_expression(alloc, outer, place, f),
         Form::Declaration(f) => {
-            let value = declarations::initialiser_of(inner.sort, f);
+            let value = declarations::initialiser_of(place, f);
             with_initialiser(alloc, outer.sort, outer.form, value)
         }
         Form::Statement(_) => unreachable!(),
@@ -97,9 +98,10 @@ fn behind_statement(
     ensures tree { IfOk result (λ f. tree_of outer.sort f ≡ then_child (tree outer) (tree inner)) }
     ensures may { IfOk result (λ f. may outer.sort f ≡ true) }
 {
+    let place = inner.sort;
     match inner.form {
         Form::Statement(f) => {
-            let body = statements::stmt_of(inner.sort, f)?;
+            let body = statements::stmt_of(place, f)?;
             with_stmt(alloc, outer.sort, outer.form, body, shut)
         }
         Form::Expression(_) => unreachable!(),
@@ -139,13 +141,14 @@ fn behind_declaration(outer: Construct, inner: Construct) -> Result<Form, FormEr
     ensures tree { IfOk result (λ f. tree_of outer.sort f ≡ then_child (tree outer) (tree inner)) }
     ensures may { IfOk result (λ f. may outer.sort f ≡ true) }
 {
+    let place = inner.sort;
     match inner.form {
-        Form::Declaration(f) => if is_external(inner.sort) {
-            let external = settled(declarations::external_of(inner.sort, f));
+        Form::Declaration(f) => if is_external(place) {
+            let external = settled(declarations::external_of(place, f));
             with_external(outer.sort, outer.form, external)
         } else {
-            let declaration = declarations::declaration_of(inner.sort, f);
-            with_declaration(outer.sort, outer.form, inner.sort, declaration)
+            let declaration = declarations::declaration_of(place, f);
+            with_declaration(outer.sort, outer.form, place, declaration)
         },
         Form::Expression(_) => unreachable!(),
         Form::Statement(_) => unreachable!(),
@@ -174,9 +177,10 @@ fn behind_parameter(
     ensures tree { IfOk result (λ f. tree_of outer.sort f ≡ then_child (tree outer) (tree inner)) }
     ensures may { IfOk result (λ f. may outer.sort f ≡ true) }
 {
+    let place = inner.sort;
     match inner.form {
         Form::Declaration(f) => {
-            let parameter = declarations::parameter_of(inner.sort, f, named, void)?;
+            let parameter = declarations::parameter_of(place, f, named, void)?;
             with_parameter(alloc, outer.sort, outer.form, parameter, named, void)
         }
         Form::Expression(_) => unreachable!(),
@@ -205,9 +209,10 @@ fn behind_declarator(
     ensures tree { IfOk result (λ f. tree_of outer.sort f ≡ then_child (tree outer) (tree inner)) }
     ensures may { IfOk result (λ f. may outer.sort f ≡ true) }
 {
+    let place = inner.sort;
     match inner.form {
         Form::Declarator(f) => {
-            let declarator = declarators::declarator_of(alloc, inner.sort, f, shape)?;
+            let declarator = declarators::declarator_of(alloc, place, f, shape)?;
             with_declarator(outer.sort, outer.form, declarator, shape)
         }
         Form::Expression(_) => unreachable!(),

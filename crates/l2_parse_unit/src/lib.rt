@@ -3,6 +3,8 @@
 
 mod copies;
 mod laws;
+mod parse;
 mod refusals;
 
+pub use parse::parse;
 pub use laws::{refused_law, unique_unit_law};

@@ -50,9 +50,11 @@ fn program_of(alloc: Global, text: &[u8]) -> Result<Program, TextFault>
     ensures ok { IfOk result (λ p. IsProgram text.now (program_tree p)) }
     ensures refused { IfErr result (λ e. OnRefusal e (λ f. IsNoProgram text.now × IsRefusalOf text.now f)) }
 {
+    refused_law();
+    unique_unit_law();
     let tokens = tokens(alloc, text)?;
     let unit = parse(alloc, &tokens)?;
-    match small_program(alloc, &unit) {
+    match small_program(alloc, unit) {
         Ok(program) => Ok(program),
         Err(SmallError::NotSmall) => Err(TextFault::At(NOT_BUILT)),
         Err(SmallError::NoMemory) => Err(TextFault::NoMemory),
@@ -60,9 +62,9 @@ fn program_of(alloc: Global, text: &[u8]) -> Result<Program, TextFault>
 }
 
 /// The program of a unit of the small form.
-fn small_program(alloc: Global, unit: &Unit) -> Result<Program, SmallError>
-    ensures ok { IfOk result (λ p. small_program (unit_tree unit.now) ≡ Some (program_tree p)) }
-    ensures not_small { IsErrOf result SmallError.NotSmall → small_program (unit_tree unit.now) ≡ None }
+fn small_program(alloc: Global, unit: Unit) -> Result<Program, SmallError>
+    ensures ok { IfOk result (λ p. small_program (unit_tree unit) ≡ Some (program_tree p)) }
+    ensures not_small { IsErrOf result SmallError.NotSmall → small_program (unit_tree unit) ≡ None }
 {
     match small(alloc, unit) {
         Ok(small_unit) => match check(alloc, small_unit) {
