@@ -3,33 +3,42 @@ use Rattle.std.proofs.Common.{◌≡◌, List, [], ◌∷◌, inl, inr, true, fa
 use Rattle.l2_grammar.specs.States.{unit, fresh}
 use Rattle.l2_grammar.specs.Nesting.{opens, outcome, on_child, stands, is_unit}
 use Rattle.l2_grammar.specs.Trees.{Seen, Tree, begin, token, child, spell, sort, state, Fits}
-use Rattle.l2_grammar.specs.Reader.{takes, begins, Verdict, Reads, finished, on_next, feed}
+use Rattle.l2_grammar.specs.Reader.{Next, Stop, To, takes, begins, step, Reads, finished, finish, on_next, feed}
 use Rattle.l2_grammar.specs.Law.{IsUnit, Spells}
 use Rattle.l2_grammar.proofs.Bools.{cond_true, cond_false}
 use Rattle.l2_grammar.proofs.Ends.{ends, Follows, ends_apart}
 use Rattle.l2_grammar.proofs.Follow.{follows_end}
 use Rattle.l2_grammar.proofs.Nests.{begins_apart, no_unit, first_child, child_begun, no_last_child}
 
+-- where the reader is behind these tokens
+abbrev pub walked : Next → (Tree → List Tree → Next) → Next
+walked Stop f = Stop
+walked (To r ks) f = f r ks
+
+abbrev pub walk : List Seen → Tree → List Tree → Next
+walk [] r ks = To r ks
+walk (t ∷ ts) r ks = walked (step ks r t) (walk ts)
+
 -- from the point behind a tree, whose last part stands
-abbrev pub after : Tree → List Tree → List Seen → Verdict
-after (begin s) ks m = feed m (begin s) ks
-after (token a t) ks m = feed m (token a t) ks
+abbrev pub after : Tree → List Tree → List Seen → Next
+after (begin s) ks m = walk m (begin s) ks
+after (token a t) ks m = walk m (token a t) ks
 after (child a c) ks m = after c (a ∷ ks) m
 
-pub taken : (ks : List Tree) (r : Tree) (t : Seen) (m : List Seen) → takes (sort r) (state r) t.kind ≡ true → feed (t ∷ m) r ks ≡ feed m (token r t) ks
-taken [] r t m e = ap (λ n. on_next n (feed m) (t ∷ m)) (cond_true (takes (sort r) (state r) t.kind) _ _ e)
-taken (p ∷ ks) r t m e = ap (λ n. on_next n (feed m) (t ∷ m)) (cond_true (takes (sort r) (state r) t.kind) _ _ e)
+pub taken : (ks : List Tree) (r : Tree) (t : Seen) (m : List Seen) → takes (sort r) (state r) t.kind ≡ true → walk (t ∷ m) r ks ≡ walk m (token r t) ks
+taken [] r t m e = ap (λ n. walked n (walk m)) (cond_true (takes (sort r) (state r) t.kind) _ _ e)
+taken (p ∷ ks) r t m e = ap (λ n. walked n (walk m)) (cond_true (takes (sort r) (state r) t.kind) _ _ e)
 
-pub opened : (ks : List Tree) (r : Tree) (t : Seen) (m : List Seen) → begins (sort r) (state r) t.kind ≡ true → feed (t ∷ m) r ks ≡ feed m (token (begin (opens (sort r) (state r))) t) (r ∷ ks)
+pub opened : (ks : List Tree) (r : Tree) (t : Seen) (m : List Seen) → begins (sort r) (state r) t.kind ≡ true → walk (t ∷ m) r ks ≡ walk m (token (begin (opens (sort r) (state r))) t) (r ∷ ks)
 opened [] r t m e =
-    ap (λ n. on_next n (feed m) (t ∷ m)) (cond_false (takes (sort r) (state r) t.kind) _ _ (begins_apart (sort r) (state r) t.kind e) ∙ cond_true (begins (sort r) (state r) t.kind) _ _ e)
+    ap (λ n. walked n (walk m)) (cond_false (takes (sort r) (state r) t.kind) _ _ (begins_apart (sort r) (state r) t.kind e) ∙ cond_true (begins (sort r) (state r) t.kind) _ _ e)
 opened (p ∷ ks) r t m e =
-    ap (λ n. on_next n (feed m) (t ∷ m)) (cond_false (takes (sort r) (state r) t.kind) _ _ (begins_apart (sort r) (state r) t.kind e) ∙ cond_true (begins (sort r) (state r) t.kind) _ _ e)
+    ap (λ n. walked n (walk m)) (cond_false (takes (sort r) (state r) t.kind) _ _ (begins_apart (sort r) (state r) t.kind e) ∙ cond_true (begins (sort r) (state r) t.kind) _ _ e)
 
-pub closed : (ks : List Tree) (p r : Tree) (t : Seen) (m : List Seen) → ends (sort r) (state r) t.kind ≡ true → stands (sort p) (state (child p r)) ≡ true → feed (t ∷ m) r (p ∷ ks) ≡ feed (t ∷ m) (child p r) ks
+pub closed : (ks : List Tree) (p r : Tree) (t : Seen) (m : List Seen) → ends (sort r) (state r) t.kind ≡ true → stands (sort p) (state (child p r)) ≡ true → walk (t ∷ m) r (p ∷ ks) ≡ walk (t ∷ m) (child p r) ks
 closed ks p r t m e h =
     let a = ends_apart (sort r) (state r) t.kind e in
-    ap (λ n. on_next n (feed m) (t ∷ m))
+    ap (λ n. walked n (walk m))
     (cond_false (takes (sort r) (state r) t.kind) _ _ a.0 ∙ cond_false (begins (sort r) (state r) t.kind) _ _ a.1 ∙ cond_true (stands (sort p) (state (child p r))) _ _ h)
 
 -- what a construct begins with
@@ -43,7 +52,7 @@ abbrev IsBegun : Tree → Type 0
 IsBegun (begin s) = ⊥
 IsBegun c = Unit {0}
 
-led : (c : Tree) → Fits c → IsBegun c → is_unit (sort c) ≡ false → (m : List Seen) → Led c m
+pub led : (c : Tree) → Fits c → IsBegun c → is_unit (sort c) ≡ false → (m : List Seen) → Led c m
 led (begin s) f b u m = absurd b
 led (token (begin s) t) f b u m = record { first = t; rest = m; leads = refl; takes = f.1 }
 led (token (token c x) t) f b u m = let r = led (token c x) f.0 tt u (t ∷ m) in record { first = r.first; rest = r.rest; leads = r.leads; takes = r.takes }
@@ -72,7 +81,7 @@ stood (begin s) b f = absurd b
 stood (token a t) b f = f.1
 stood (child a c) b f = f.3
 
-pub settle : (r : Tree) → Fits r → (ks : List Tree) (t : Seen) (m : List Seen) → Follows (sort r) (state r) t.kind → after r ks (t ∷ m) ≡ feed (t ∷ m) r ks
+pub settle : (r : Tree) → Fits r → (ks : List Tree) (t : Seen) (m : List Seen) → Follows (sort r) (state r) t.kind → after r ks (t ∷ m) ≡ walk (t ∷ m) r ks
 settle (begin s) f ks t m w = refl
 settle (token a x) f ks t m w = refl
 settle (child a c) f ks t m w =
@@ -80,13 +89,13 @@ settle (child a c) f ks t m w =
     settle c f.1 (a ∷ ks) t m (inr (inr e)) ∙ closed ks a c t m e f.3
 
 -- a construct that begins in another
-starts : (a c : Tree) (ks : List Tree) (m : List Seen) → opens (sort a) (state a) ≡ sort c → (l : Led c m) → feed (l.first ∷ l.rest) a ks ≡ feed (l.first ∷ l.rest) (begin (sort c)) (a ∷ ks)
+starts : (a c : Tree) (ks : List Tree) (m : List Seen) → opens (sort a) (state a) ≡ sort c → (l : Led c m) → walk (l.first ∷ l.rest) a ks ≡ walk (l.first ∷ l.rest) (begin (sort c)) (a ∷ ks)
 starts a c ks m o l =
     opened ks a l.first l.rest (subst (λ s. takes s fresh l.first.kind ≡ true) (sym o) l.takes)
-    ∙ ap (λ s. feed l.rest (token (begin s) l.first) (a ∷ ks)) o
+    ∙ ap (λ s. walk l.rest (token (begin s) l.first) (a ∷ ks)) o
     ∙ sym (taken (a ∷ ks) (begin (sort c)) l.first l.rest l.takes)
 
-pub fed : (r : Tree) → Fits r → (ks : List Tree) (m : List Seen) → feed (spell r m) (begin (sort r)) ks ≡ after r ks m
+pub fed : (r : Tree) → Fits r → (ks : List Tree) (m : List Seen) → walk (spell r m) (begin (sort r)) ks ≡ after r ks m
 fed (begin s) f ks m = refl
 fed (token a t) f ks m = fed a f.0 ks (t ∷ m) ∙ settle a f.0 ks t m (inl f.1) ∙ taken ks a t m f.1
 fed (child a c) f ks m =
@@ -94,7 +103,7 @@ fed (child a c) f ks m =
     let l = led c f.1 (begun a c f.3) u m in
     let b : begins (sort a) (state a) l.first.kind ≡ true = subst (λ s. takes s fresh l.first.kind ≡ true) (sym f.2) l.takes in
     fed a f.0 ks (spell c m) ∙ ap (λ x. after a ks x) l.leads ∙ settle a f.0 ks l.first l.rest (inr (inl b))
-    ∙ starts a c ks m f.2 l ∙ ap (λ x. feed x (begin (sort c)) (a ∷ ks)) (sym l.leads) ∙ fed c f.1 (a ∷ ks) m
+    ∙ starts a c ks m f.2 l ∙ ap (λ x. walk x (begin (sort c)) (a ∷ ks)) (sym l.leads) ∙ fed c f.1 (a ∷ ks) m
 
 fresh_stands : stands unit fresh ≡ true
 unfolding stands
@@ -105,10 +114,19 @@ unit_stands (begin s) f e = fresh_stands
 unit_stands (token a t) f e = subst (λ s. stands s (state (token a t)) ≡ true) e f.1
 unit_stands (child a c) f e = subst (λ s. stands s (state (child a c)) ≡ true) e f.3
 
+pub walk_read : (ts : List Seen) (r : Tree) (ks : List Tree) (q : Tree) (js : List Tree) → walk ts r ks ≡ To q js → feed ts r ks ≡ finish q js
+walk_read [] r ks q js e = cc
+walk_read (t ∷ ts) r ks q js e = go (step ks r t) e (λ r' ks'. walk_read ts r' ks' q js)
+  where
+    go : (n : Next) → walked n (walk ts) ≡ To q js → ((r' : Tree) (ks' : List Tree) → walk ts r' ks' ≡ To q js → feed ts r' ks' ≡ finish q js) → on_next n (feed ts) (t ∷ ts) ≡ finish q js
+    go Stop e f = absurd (cc)
+    go (To r' ks') e f = f r' ks' e
+
 pub fed_unit : (u : Tree) → IsUnit u → feed (spell u []) (begin unit) [] ≡ Reads u
 fed_unit (begin s) i = absurd (cc)
 fed_unit (token a t) i =
-    ap (λ s. feed (spell a (t ∷ [])) (begin s) []) (sym i.sorted) ∙ fed (token a t) i.fits [] [] ∙ ap (λ q. finished q (token a t)) i.ended
+    walk_read (spell a (t ∷ [])) (begin unit) [] (token a t) [] (ap (λ s. walk (spell a (t ∷ [])) (begin s) []) (sym i.sorted) ∙ fed (token a t) i.fits [] [])
+    ∙ ap (λ q. finished q (token a t)) i.ended
 fed_unit (child a c) i = absurd (no_last_child (state a) (outcome (state c)) (unit_stands a i.fits.0 i.sorted) (ap (λ s. on_child s (state a) (outcome (state c))) (sym i.sorted) ∙ i.ended))
 
 pub reads : (ts : List Seen) (u : Tree) → Spells ts u → feed ts (begin unit) [] ≡ Reads u

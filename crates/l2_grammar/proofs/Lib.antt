@@ -13,3 +13,6 @@ pub mod Complete
 pub mod Kept
 pub mod Reading
 pub mod Limits
+pub mod Lengths
+pub mod Walks
+pub mod Expressions

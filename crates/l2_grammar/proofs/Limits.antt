@@ -3,7 +3,7 @@ use Rattle.std.proofs.Common.{◌≡◌, ℕ, List, [], ◌∷◌, ◌++◌, Boo
 use Rattle.l2_grammar.specs.States.{unit}
 use Rattle.l2_grammar.specs.Trees.{Seen, Tree, begin, spell}
 use Rattle.l2_grammar.specs.Reader.{Next, Stop, To, step, Verdict, Stops, Reads, finish, on_next, feed}
-use Rattle.l2_grammar.specs.Law.{Spells, StopsBefore}
+use Rattle.l2_grammar.specs.Law.{IsUnit, Spells, StopsBefore}
 use Rattle.l2_grammar.specs.Limits.{brackets, nests, nesting, syntax, Reading, Read, Refused, ended, on_step, read_on, reading, on_deep, deep_from, Shallow, ShallowAt, DeepAt, NestsBefore}
 use Rattle.l2_grammar.proofs.Bools.{no}
 use Rattle.l2_grammar.proofs.Fed.{reads}
@@ -44,7 +44,7 @@ same_length used more rest t e =
     let c : length rest ≡ length (used ++ (t ∷ (more ++ rest))) = ap (λ x. length x) e in
     omega arith
 
-head_is : (x t : Seen) (xs ts : List Seen) → x ∷ xs ≡ t ∷ ts → (x ≡ t) × (xs ≡ ts)
+pub head_is : (x t : Seen) (xs ts : List Seen) → x ∷ xs ≡ t ∷ ts → (x ≡ t) × (xs ≡ ts)
 head_is x t xs ts e = (cc, cc)
 
 shallow_from : (ts : List Seen) (n : ℕ) (r : Tree) (ks : List Tree) → NoneDeep ts (Left (read_on ts n r ks)) n r ks
@@ -66,7 +66,7 @@ shallow_from (x ∷ ts) n r ks used t more e d = go (nests n x.kind (step ks r x
 record Nested (X : List Seen → List Seen) (ts : List Seen) (n : ℕ) (r : Tree) (ks : List Tree) (rest : List Seen) : Type 0 where
   used : List Seen
   parts : ts ≡ used ++ rest
-  begun : Begun (λ m. X (used ++ m))
+  begun : Begun IsUnit (λ m. X (used ++ m))
   first : Seen
   more : List Seen
   head : rest ≡ first ∷ more
@@ -87,18 +87,18 @@ further X r ks t ts n r' ks' (Refused syntax rest) s e o = tt
 further X r ks t ts n r' ks' (Refused nesting rest) s e o = record {
   used = t ∷ o.used;
   parts = ap (λ z. t ∷ z) o.parts;
-  begun = record { unit = o.begun.unit; rest = o.begun.rest; whole = o.begun.whole; spells = o.begun.spells ∙ sym (e (o.used ++ o.begun.rest)) };
+  begun = record { tree = o.begun.tree; rest = o.begun.rest; whole = o.begun.whole; spells = o.begun.spells ∙ sym (e (o.used ++ o.begun.rest)) };
   first = o.first;
   more = o.more;
   head = o.head;
   deep = ap (λ x. on_deep x (deep_from o.used o.first (brackets n t.kind))) s ∙ o.deep;
 }
 
-nested_from : (ts : List Seen) (n : ℕ) (r : Tree) (ks : List Tree) → Good ks r → NestedAt (λ m. before ks (spell r m)) ts n r ks (read_on ts n r ks)
+nested_from : (ts : List Seen) (n : ℕ) (r : Tree) (ks : List Tree) → Good unit ks r → NestedAt (λ m. before ks (spell r m)) ts n r ks (read_on ts n r ks)
 nested_from [] n r ks g = ended_nested _ n r ks (finish r ks)
-nested_from (t ∷ ts) n r ks g = go (nests n t.kind (step ks r t)) refl (step ks r t) refl (kept_step ks r t g) (λ r' ks' g'. nested_from ts (brackets n t.kind) r' ks' g')
+nested_from (t ∷ ts) n r ks g = go (nests n t.kind (step ks r t)) refl (step ks r t) refl (kept_step unit ks r t g) (λ r' ks' g'. nested_from ts (brackets n t.kind) r' ks' g')
   where
-    go : (b : Bool) → nests n t.kind (step ks r t) ≡ b → (x : Next) → step ks r t ≡ x → Kept (λ m. before ks (spell r (t ∷ m))) x → ((r' : Tree) (ks' : List Tree) → Good ks' r' → NestedAt (λ m. before ks' (spell r' m)) ts (brackets n t.kind) r' ks' (read_on ts (brackets n t.kind) r' ks')) → NestedAt (λ m. before ks (spell r m)) (t ∷ ts) n r ks (cond b (Refused nesting (t ∷ ts)) (on_step x (read_on ts (brackets n t.kind)) (t ∷ ts)))
+    go : (b : Bool) → nests n t.kind (step ks r t) ≡ b → (x : Next) → step ks r t ≡ x → Kept unit (λ m. before ks (spell r (t ∷ m))) x → ((r' : Tree) (ks' : List Tree) → Good unit ks' r' → NestedAt (λ m. before ks' (spell r' m)) ts (brackets n t.kind) r' ks' (read_on ts (brackets n t.kind) r' ks')) → NestedAt (λ m. before ks (spell r m)) (t ∷ ts) n r ks (cond b (Refused nesting (t ∷ ts)) (on_step x (read_on ts (brackets n t.kind)) (t ∷ ts)))
     go true i x e k f = record { used = []; parts = refl; begun = finish_at ks r g; first = t; more = ts; head = refl; deep = i }
     go false i Stop e k f = tt
     go false i (To r' ks') e k f = further (λ m. before ks (spell r m)) r ks t ts n r' ks' (read_on ts (brackets n t.kind) r' ks') e k.1 (f r' ks' k.0)
@@ -174,7 +174,7 @@ nests_before ts rest e =
     record {
       used = o.used;
       parts = o.parts;
-      begins = record { unit = o.begun.unit; rest = o.begun.rest; spells = record { whole = o.begun.whole; spelled = o.begun.spells } };
+      begins = record { unit = o.begun.tree; rest = o.begun.rest; spells = record { whole = o.begun.whole; spelled = o.begun.spells } };
       deep = subst (λ z. DeepAt o.used z) (sym o.head) o.deep;
       shallow = subst (λ v. NoneDeep ts (Left v) 0 (begin unit) []) e (shallow_from ts 0 (begin unit) []);
     }

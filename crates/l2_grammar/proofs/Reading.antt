@@ -12,14 +12,14 @@ use Rattle.l2_grammar.proofs.Kept.{before, Good, Kept, kept_step, Begun, finish_
 record Stopped (X : List Seen → List Seen) (ts : List Seen) (r : Tree) (ks : List Tree) (rest : List Seen) : Type 0 where
   used : List Seen
   parts : ts ≡ used ++ rest
-  begun : Begun (λ m. X (used ++ m))
+  begun : Begun IsUnit (λ m. X (used ++ m))
   again : (t : Seen) (z : List Seen) → rest ≡ t ∷ z → (m : List Seen) → feed (used ++ (t ∷ m)) r ks ≡ Stops (t ∷ m)
 
 abbrev Outcome : (List Seen → List Seen) → List Seen → Tree → List Tree → Verdict → Type 0
 Outcome X ts r ks (Reads u) = IsUnit u × (spell u [] ≡ X ts)
 Outcome X ts r ks (Stops rest) = Stopped X ts r ks rest
 
-end_is : (ks : List Tree) (r : Tree) → Good ks r → Outcome (λ m. before ks (spell r m)) [] r ks (feed [] r ks)
+end_is : (ks : List Tree) (r : Tree) → Good unit ks r → Outcome (λ m. before ks (spell r m)) [] r ks (feed [] r ks)
 end_is (p ∷ ks) r g = record { used = []; parts = refl; begun = finish_at (p ∷ ks) r g; again = λ t z e m. absurd (cc) }
 end_is [] r g = go (state r) refl
   where
@@ -32,15 +32,15 @@ further X r ks t ts r' ks' (Reads u) s e o = (o.0, o.1 ∙ sym (e ts))
 further X r ks t ts r' ks' (Stops rest) s e o = record {
   used = t ∷ o.used;
   parts = ap (λ z. t ∷ z) o.parts;
-  begun = record { unit = o.begun.unit; rest = o.begun.rest; whole = o.begun.whole; spells = o.begun.spells ∙ sym (e (o.used ++ o.begun.rest)) };
+  begun = record { tree = o.begun.tree; rest = o.begun.rest; whole = o.begun.whole; spells = o.begun.spells ∙ sym (e (o.used ++ o.begun.rest)) };
   again = λ x z q m. ap (λ (n : Next). on_next n (feed (o.used ++ (x ∷ m))) (t ∷ (o.used ++ (x ∷ m)))) s ∙ o.again x z q m;
 }
 
-from_state : (ts : List Seen) (r : Tree) (ks : List Tree) → Good ks r → Outcome (λ m. before ks (spell r m)) ts r ks (feed ts r ks)
+from_state : (ts : List Seen) (r : Tree) (ks : List Tree) → Good unit ks r → Outcome (λ m. before ks (spell r m)) ts r ks (feed ts r ks)
 from_state [] r ks g = end_is ks r g
-from_state (t ∷ ts) r ks g = go (step ks r t) refl (kept_step ks r t g) (λ r' ks' g'. from_state ts r' ks' g')
+from_state (t ∷ ts) r ks g = go (step ks r t) refl (kept_step unit ks r t g) (λ r' ks' g'. from_state ts r' ks' g')
   where
-    go : (n : Next) → step ks r t ≡ n → Kept (λ m. before ks (spell r (t ∷ m))) n → ((r' : Tree) (ks' : List Tree) → Good ks' r' → Outcome (λ m. before ks' (spell r' m)) ts r' ks' (feed ts r' ks')) → Outcome (λ m. before ks (spell r m)) (t ∷ ts) r ks (on_next n (feed ts) (t ∷ ts))
+    go : (n : Next) → step ks r t ≡ n → Kept unit (λ m. before ks (spell r (t ∷ m))) n → ((r' : Tree) (ks' : List Tree) → Good unit ks' r' → Outcome (λ m. before ks' (spell r' m)) ts r' ks' (feed ts r' ks')) → Outcome (λ m. before ks (spell r m)) (t ∷ ts) r ks (on_next n (feed ts) (t ∷ ts))
     go Stop e k f = record {
       used = [];
       parts = refl;
@@ -53,7 +53,7 @@ fresh_stands : stands unit fresh ≡ true
 unfolding stands
 fresh_stands = refl
 
-pub begins_good : Good [] (begin unit)
+pub begins_good : Good unit [] (begin unit)
 begins_good = (tt, fresh_stands, refl)
 
 pub spelled : (ts : List Seen) (u : Tree) → feed ts (begin unit) [] ≡ Reads u → Spells ts u
@@ -71,4 +71,4 @@ no_further ts (t ∷ r) o e = λ b.
 pub stops : (ts rest : List Seen) → feed ts (begin unit) [] ≡ Stops rest → StopsBefore ts rest
 stops ts rest e =
     let o : Outcome (λ m. m) ts (begin unit) [] (Stops rest) = subst (λ v. Outcome (λ m. m) ts (begin unit) [] v) e (from_state ts (begin unit) [] begins_good) in
-    record { used = o.used; parts = o.parts; begins = record { unit = o.begun.unit; rest = o.begun.rest; spells = record { whole = o.begun.whole; spelled = o.begun.spells } }; further = no_further ts rest o e }
+    record { used = o.used; parts = o.parts; begins = record { unit = o.begun.tree; rest = o.begun.rest; spells = record { whole = o.begun.whole; spelled = o.begun.spells } }; further = no_further ts rest o e }

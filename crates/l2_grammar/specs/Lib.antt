@@ -6,3 +6,4 @@ pub mod Trees
 pub mod Reader
 pub mod Law
 pub mod Limits
+pub mod Expressions

@@ -3,6 +3,8 @@ pub use Rattle.l2_grammar.specs.declared.states.Naming.{Naming}
 pub use Rattle.l2_grammar.specs.declared.states.Naming.TheVariants.{Named as named, Optional as optional, Absent as absent}
 pub use Rattle.l2_grammar.specs.declared.states.Items.{Items}
 pub use Rattle.l2_grammar.specs.declared.states.Items.TheVariants.{Lone as lone, Listed as listed, BehindElse as behind_else}
+pub use Rattle.l2_grammar.specs.declared.states.Level.{Level}
+pub use Rattle.l2_grammar.specs.declared.states.Level.TheVariants.{Comma as comma_level, Assignment as assignment_level, Conditional as conditional_level}
 pub use Rattle.l2_grammar.specs.declared.states.Sort.{Sort}
 pub use Rattle.l2_grammar.specs.declared.states.Sort.TheVariants.{Unit as unit, External as external, Item as item, ForFirst as for_first, Member as member, Parameter as parameter, Declarator as declarator, Enclosed as enclosed, Operand as operand, Inside as inside, SizeofOperand as sizeof_operand, Initialiser as initialiser, Nowhere as nowhere}
 pub use Rattle.l2_grammar.specs.declared.states.Right.{Right}

@@ -1,3 +1,4 @@
+ghost use Rattle.l2_grammar.specs.Expressions.{ExpressionLaw, ExpressionNestingLaw, ExpressionSyntaxLaw};
 ghost use Rattle.l2_grammar.specs.Law.{ReadLaw, StopLaw, UniqueLaw};
 ghost use Rattle.l2_grammar.specs.Limits.{WithinLaw, NestingLaw, SyntaxLaw};
 
@@ -29,4 +30,21 @@ pub fn nesting_law()
 /// Where the grammar stops the reader, reading stops there, and no token up to that one is too deep.
 pub fn syntax_law()
     ensures { SyntaxLaw }
+{}
+
+/// An expression ends exactly where the tokens before spell it and no expression goes on with the next, and none is too deep.
+pub fn expression_law()
+    ensures { ExpressionLaw }
+{}
+
+/// Reading an expression is refused by a limit exactly where some expression begins with the tokens before, and the next is the
+/// first that is too deep.
+pub fn expression_nesting_law()
+    ensures { ExpressionNestingLaw }
+{}
+
+/// Reading an expression is refused by the grammar exactly where some expression begins with the tokens before, none with one more,
+/// and those before are no whole expression.
+pub fn expression_syntax_law()
+    ensures { ExpressionSyntaxLaw }
 {}

@@ -4,5 +4,10 @@
 mod laws;
 mod states;
 
-pub use laws::{nesting_law, read_law, stop_law, syntax_law, unique_law, within_law};
-pub use states::{Core, Items, Length, Named, Naming, Outcome, Right, Shape, Sort, State, Storage};
+pub use laws::{
+    expression_law, expression_nesting_law, expression_syntax_law, nesting_law, read_law, stop_law,
+    syntax_law, unique_law, within_law,
+};
+pub use states::{
+    Core, Items, Length, Level, Named, Naming, Outcome, Right, Shape, Sort, State, Storage,
+};

@@ -22,6 +22,15 @@ pub enum Items {
     BehindElse,
 }
 
+/// Which full expression stands at a place.
+#[derive(Clone, Copy)]
+pub enum Level {
+    /// With commas.
+    Comma,
+    Assignment,
+    Conditional,
+}
+
 /// What may stand at a place: the sorts of constructs (C11 6.5 to 6.9).
 #[derive(Clone, Copy)]
 pub enum Sort {

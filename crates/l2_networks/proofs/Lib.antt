@@ -1,1 +1,2 @@
 pub mod OfStates
+pub mod Tells

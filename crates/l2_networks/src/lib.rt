@@ -4,6 +4,9 @@
 mod marks;
 mod nesting;
 mod networks;
+mod telling;
 
+pub use marks::is;
 pub use nesting::{on_child, opens, outcome, stands};
-pub use networks::on_token;
+pub use networks::{applied, indexed, on_token};
+pub use telling::only;

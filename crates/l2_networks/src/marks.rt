@@ -1,5 +1,5 @@
 // Which mark a token is.
-ghost use Rattle.std.specs.Prelude.{◌≡◌};
+ghost use Rattle.std.specs.Prelude.{◌≡◌, true};
 ghost use Rattle.l2_grammar.specs.Marks.{is, number_of};
 
 use l2_syntax::{Mark, TokenKind};
@@ -86,9 +86,10 @@ fn number_of(mark: Mark) -> u8
 }
 
 /// Whether the token is the mark.
-#[tactic(auto, unfolding(l2_grammar::specs::Marks::is))]
+#[tactic(auto, unfolding(l2_grammar::specs::Marks::is), using(crate::proofs::Tells::is_mark))]
 pub fn is(mark: Mark, kind: TokenKind) -> bool
-    ensures { result ≡ is mark kind }
+    ensures is { result ≡ is mark kind }
+    ensures told { result ≡ true → kind ≡ TokenKind.Mark mark }
 {
     match kind {
         TokenKind::Mark(other) => number_of(mark) == number_of(other),

@@ -410,7 +410,8 @@ fn begun_as(sort: Sort, kind: TokenKind) -> State
     }
 }
 
-fn applied(shape: Shape, all_named: bool) -> Shape
+/// What parameters behind it make of a declarator.
+pub fn applied(shape: Shape, all_named: bool) -> Shape
     ensures { result ≡ applied shape all_named }
 {
     match shape {
@@ -419,7 +420,8 @@ fn applied(shape: Shape, all_named: bool) -> Shape
     }
 }
 
-fn indexed(shape: Shape) -> Shape
+/// What a length behind it makes of a declarator.
+pub fn indexed(shape: Shape) -> Shape
     ensures { result ≡ indexed shape }
 {
     match shape {

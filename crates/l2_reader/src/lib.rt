@@ -1,14 +1,18 @@
-//! Reads the tokens of a text to its tree, exactly as the grammar says.
+//! Reads the tokens of a text to its tree within the limits, exactly as the grammar says.
 #![tactic(auto)]
 
 mod error;
+mod expressions;
+mod limits;
 mod reader;
+mod stack;
 mod steps;
 mod syntax;
 #[cfg(test)]
 mod tests;
 
 pub use error::{ParseError, ReadError};
-pub use reader::read;
-pub use steps::step;
-pub use syntax::{Open, Stack, Syntax};
+pub use expressions::expression;
+pub use reader::{Progress, read};
+pub use stack::{Counts, Stack};
+pub use syntax::{Open, Syntax};

@@ -1,9 +1,8 @@
-use Rattle.std.proofs.Common.{◌≡◌, [], drop, map}
-use Rattle.l2_grammar.specs.declared.states.Sort.TheVariants.{Unit as unit}
-use Rattle.l2_grammar.specs.Trees.{begin}
-use Rattle.l2_grammar.specs.Reader.{feed}
-use Rattle.l2_reader.specs.Parts.{seen, tree_of, trees_of, Sound, AllSound}
+use Rattle.std.proofs.Common.{◌≡◌, drop, map}
+use Rattle.l2_grammar.specs.Limits.{reading}
+use Rattle.l2_reader.specs.Parts.{seen}
+use Rattle.l2_reader.specs.Readings.{Steady, count_of, read_from}
 use Rattle.l2_reader.proofs.reader.read_all.Given as goal
 
 abbrev pub invariant-loop-token : goal.invariant-loop-token
-invariant-loop-token l = (feed (map seen l.tokens) (begin unit) [] ≡ feed (map seen (drop l.token-index l.tokens)) (tree_of l.run) (trees_of l.stack)) × (Sound l.run × AllSound l.stack) × (l.at ≡ l.token-index)
+invariant-loop-token l = (reading (map seen l.tokens) ≡ read_from l.progress (map seen (drop l.token-index l.tokens))) × Steady l.progress × (l.at ≡ l.token-index) × (count_of l.progress ≡ l.token-index)

@@ -1,0 +1,32 @@
+ghost use Rattle.std.specs.Prelude.{◌≡◌};
+
+use std::alloc::{AllocError, AllocFailed};
+use thiserror::Error;
+
+/// Why a form doesn't go on.
+#[derive(Debug, Drop, Clone, Copy, PartialEq, Eq, Error)]
+pub enum FormError {
+    /// There was no memory left.
+    #[error("no memory left")]
+    NoMemory,
+}
+
+impl From<AllocError> for FormError {
+    ghost use Rattle.l2_declarator_forms.specs.declared.error.FormError.TheVariants.{NoMemory};
+
+    ghost from_gives = { λ _ e. e ≡ NoMemory };
+
+    fn from(_e: AllocError) -> FormError {
+        FormError::NoMemory
+    }
+}
+
+impl<T: Drop> From<AllocFailed<T>> for FormError {
+    ghost use Rattle.l2_declarator_forms.specs.declared.error.FormError.TheVariants.{NoMemory};
+
+    ghost from_gives = { λ _ e. e ≡ NoMemory };
+
+    fn from(_e: AllocFailed<T>) -> FormError {
+        FormError::NoMemory
+    }
+}
