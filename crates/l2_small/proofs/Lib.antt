@@ -1,5 +1,8 @@
-pub mod Lists
-pub mod Mains
+pub mod Fed
+pub mod Kept
+pub mod Reading
 pub mod Rows
-pub mod SmallTrees
 pub mod Steps
+pub mod Counts
+pub mod Spelling
+pub mod CountLoops

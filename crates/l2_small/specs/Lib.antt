@@ -1,3 +1,6 @@
-pub mod SmallTrees
-pub mod Words
-pub mod SmallForm
+pub mod Trees
+pub mod Reader
+pub mod States
+pub mod Limits
+pub mod Counts
+pub mod Spells

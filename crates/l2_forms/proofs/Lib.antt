@@ -1,4 +1,0 @@
-pub mod Never
-pub mod Begun
-pub mod Left
-pub mod Links

@@ -1,7 +1,0 @@
-//! Reads one full expression of a text: its tree and where it ends, or where reading stops.
-#![tactic(auto)]
-
-mod parse;
-
-pub use l2_grammar::Level;
-pub use parse::expression;

@@ -1,4 +1,0 @@
-mod Refused
-mod Places
-mod Unique
-mod Wholes
