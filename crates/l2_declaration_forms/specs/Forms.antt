@@ -8,7 +8,7 @@ use Rattle.l2_grammar.specs.declared.states.Sort.TheVariants as sort
 use Rattle.l2_grammar.specs.declared.states.Storage.{Storage}
 use Rattle.l2_grammar.specs.declared.states.Storage.TheVariants as storage
 use Rattle.l2_grammar.specs.declared.states.Length.{Length}
-use Rattle.l2_grammar.specs.declared.states.Length.TheVariants as length
+use Rattle.l2_grammar.specs.declared.states.Length.TheVariants as lengths
 use Rattle.l2_grammar.specs.declared.states.Named.{Named}
 use Rattle.l2_grammar.specs.declared.states.Named.TheVariants as named
 use Rattle.l2_grammar.specs.declared.states.State.{State}
@@ -53,8 +53,8 @@ named_of type.Tagged = named.Tagged
 
 -- behind one more `long`
 abbrev pub longer : Length → Length
-longer length.NoLength = length.Long
-longer l = length.LongLong
+longer lengths.NoLength = lengths.Long
+longer l = lengths.LongLong
 
 -- ---- states
 
