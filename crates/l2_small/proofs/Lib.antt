@@ -1,8 +1,5 @@
-pub mod Fed
-pub mod Kept
-pub mod Reading
+pub mod Lists
+pub mod Mains
 pub mod Rows
+pub mod SmallTrees
 pub mod Steps
-pub mod Counts
-pub mod Spelling
-pub mod CountLoops

@@ -1,6 +1,3 @@
-pub mod Trees
-pub mod Reader
-pub mod States
-pub mod Limits
-pub mod Counts
-pub mod Spells
+pub mod SmallTrees
+pub mod Words
+pub mod SmallForm

@@ -1,169 +1,111 @@
-use crate::error::SmallError;
-use crate::unit::read;
-use std::alloc::Global;
+use crate::{SmallError, SmallStmt, small};
+use l2_bits::List;
+use l2_syntax::{Name, Place};
+use l2_tree::{
+    BinaryOperator, Core, Declarator, Expr, External, Parameter, Specifier, SpecifierWord, Stmt,
+    Suffix, Unit,
+};
+use std::alloc::{AllocError, Global};
 use std::test::Fail;
 
-/// Texts of the form.
-const SMALL: [&str; 14] = [
-    "int main(void){}",
-    "int main ( void )\n{ return 0; }\n",
-    "int\tmain(void) {int x=__VERIFIER_nondet_int();assert(x!=7);return 0;} ",
-    "int main(void){int n=__VERIFIER_nondet_int();int i=0;while(i<n){i=i+1;}assert(i==n);return 0;}",
-    "int main(void){int elsex=1;int main1=2;assert(elsex<main1);return 0;}",
-    "int main(void){int main=1;assert(main==1);return 0;}",
-    "int main(void){return - - 1;}",
-    "int main(void){return -(-1)-1- -1;}",
-    "int main(void){return !-1*2147483647<=(0)>=x==!y;}",
-    "int main(void){if(0){assert(0);}else{assert(1);}return 0;}",
-    "int main(void){if(a){if(b){}else{}}x=1;}",
-    "int main(void){int __VERIFIER_nondet_float;int reach_errors;int __VERIFIER_assert;}",
-    "\r\n\x0bint main(\x0cvoid){int x;x=x-1;}",
-    "int main(void){while(1){return 0;}}",
-];
+const NAMES: [&str; 4] = ["main", "assert", "__VERIFIER_nondet_int", "x"];
 
-/// Texts that aren't of the form.
-const NOT_SMALL: [&str; 38] = [
-    "",
-    " ",
-    "int main(){return 0;}",
-    "int x(void){return 0;}",
-    "int main(void){return 0;};",
-    "int main(void){return 0;",
-    "int main(void){return 0;}}",
-    "int g;int main(void){return 0;}",
-    "int main(void){;return 0;}",
-    "int main(void){{return 0;}}",
-    "int main(void){int x=1,y=2;return 0;}",
-    "int main(void){int x=1u;return 0;}",
-    "int main(void){int x=01;return 0;}",
-    "int main(void){int x=2147483648;return 0;}",
-    "int main(void){int x=12345678901;return 0;}",
-    "int main(void){return 1x;}",
-    "int main(void){return 0x1;}",
-    "int main(void){return 1.5;}",
-    "int main(void){int x=1/1;return 0;}",
-    "int main(void){int x=1&&1;return 0;}",
-    "int main(void){int x=1;x++;return 0;}",
-    "int main(void){int x=1;x+=1;return 0;}",
-    "int main(void){int x=1;x=a--b;return 0;}",
-    "int main(void){int x=a+++b;return 0;}",
-    "int main(void){int x=a<<b;return 0;}",
-    "int main(void){int x=a->b;return 0;}",
-    "int main(void){if(1)return 0;return 1;}",
-    "int main(void){if(1){}else if(1){}return 0;}",
-    "int main(void){else{}}",
-    "int main(void){/* c */return 0;}",
-    "int main(void){return 0;}//",
-    "int main(void){int auto=1;return 0;}",
-    "int main(void){int __inline=1;return 0;}",
-    "int main(void){int abort=1;return 0;}",
-    "int main(void){return __VERIFIER_nondet_uint();}",
-    "int main(void){return +1;}",
-    "int main(void){return 1 2;}",
-    "int main(void){int x=1;x=x=2;return 0;}",
-];
-
-/// A text with repeated parts: its head, two parts and the one between, its end, and how often both parts stand.
-#[derive(Clone, Copy)]
-struct Nested {
-    head: &'static str,
-    open: &'static str,
-    middle: &'static str,
-    close: &'static str,
-    end: &'static str,
-    most: u16,
-}
-
-const NESTED: [Nested; 6] = [
-    Nested {
-        head: "int main(void){return ",
-        open: "(",
-        middle: "0",
-        close: ")",
-        end: ";}",
-        most: 127,
-    },
-    Nested {
-        head: "int main(void){return ",
-        open: "(",
-        middle: "__VERIFIER_nondet_int()",
-        close: ")",
-        end: ";}",
-        most: 126,
-    },
-    Nested {
-        head: "int main(void){",
-        open: "if(1){",
-        middle: "int x;",
-        close: "}",
-        end: "}",
-        most: 63,
-    },
-    Nested {
-        head: "int main(void){return -0",
-        open: "+0",
-        middle: "",
-        close: "",
-        end: ";}",
-        most: 511,
-    },
-    Nested {
-        head: "int main(void){assert(0",
-        open: "<0",
-        middle: "",
-        close: "",
-        end: ");}",
-        most: 510,
-    },
-    Nested {
-        head: "int main(void){x=-0",
-        open: "*0",
-        middle: "",
-        close: "",
-        end: ";}",
-        most: 510,
-    },
-];
-
-/// Whether a text is read; want of memory is a fault.
-fn is_small(alloc: Global, text: &[u8]) -> Result<bool, Fail> {
-    if text.len() > 1048576 {
-        return Ok(false);
-    }
-    match read(alloc, text) {
-        Ok(_) => Ok(true),
-        Err(SmallError::NotSmall) => Ok(false),
-        Err(e) => Err(e)?,
+fn at(offset: u32) -> Place {
+    Place {
+        offset,
+        line: 1,
+        col: 1,
     }
 }
 
-fn spelt(alloc: Global, shape: &Nested, times: u16) -> Result<Vec<u8>, Fail> {
-    let mut text = Vec::new(alloc);
-    text.extend_from_slice(shape.head.as_bytes())?;
-    for _ in 0..times {
-        text.extend_from_slice(shape.open.as_bytes())?;
+fn one<T: Drop>(alloc: Global, x: T) -> Result<Vec<T>, AllocError> {
+    let mut all = Vec::new(alloc);
+    all.push(x)?;
+    Ok(all)
+}
+
+fn word(word: SpecifierWord) -> Specifier {
+    Specifier::Word(word, at(0))
+}
+
+fn call(alloc: Global, function: u32, given: Vec<Expr>) -> Result<Expr, AllocError> {
+    Ok(Expr::Call(Box::new(alloc, Expr::Name(function, at(7)))?, at(0), given))
+}
+
+/// `main(void)`, by the number of its name.
+fn declarator(alloc: Global, name: u32) -> Result<Declarator, AllocError> {
+    let void = Parameter::Plain(one(alloc, word(SpecifierWord::Void))?);
+    Ok(Declarator {
+        pointers: Vec::new(alloc),
+        core: Core::Name(name, at(4)),
+        suffixes: one(alloc, Suffix::Parameters(at(0), one(alloc, void)?))?,
+    })
+}
+
+/// `int f(void) { item }`, by the number of the function's name.
+fn unit(alloc: Global, name: u32, item: Stmt) -> Result<Unit, AllocError> {
+    let main = External::Function(
+        one(alloc, word(SpecifierWord::Int))?,
+        declarator(alloc, name)?,
+        at(0),
+        one(alloc, item)?,
+    );
+    let mut names = Vec::new(alloc);
+    for name in NAMES {
+        names.push(Name {
+            bytes: List::new(name.as_bytes().to_vec(alloc)?),
+        })?;
     }
-    text.extend_from_slice(shape.middle.as_bytes())?;
-    for _ in 0..times {
-        text.extend_from_slice(shape.close.as_bytes())?;
-    }
-    text.extend_from_slice(shape.end.as_bytes())?;
-    Ok(text)
+    Ok(Unit {
+        externals: List::new(one(alloc, main)?),
+        constants: List::new(Vec::new(alloc)),
+        names: List::new(names),
+    })
+}
+
+/// `x OP __VERIFIER_nondet_int()`.
+fn compared(alloc: Global, operator: BinaryOperator) -> Result<Expr, AllocError> {
+    Ok(Expr::Binary(
+        Box::new(alloc, Expr::Name(3, at(0)))?,
+        operator,
+        at(0),
+        Box::new(alloc, call(alloc, 2, Vec::new(alloc))?)?,
+    ))
+}
+
+/// `assert(x OP __VERIFIER_nondet_int());`, by the number of the name `assert`.
+fn asserted(alloc: Global, name: u32, operator: BinaryOperator) -> Result<Stmt, AllocError> {
+    let test = compared(alloc, operator)?;
+    Ok(Stmt::Expression(call(alloc, name, one(alloc, test)?)?))
 }
 
 #[test]
-fn texts_are_told_apart(rt: HostRuntime) -> Result<(), Fail> {
-    for text in SMALL {
-        assert!(rt; is_small(rt.alloc(), text.as_bytes())?, "{text}");
+fn an_assertion_is_small(rt: HostRuntime) -> Result<(), Fail> {
+    let alloc = rt.alloc();
+    let item = asserted(alloc, 1, BinaryOperator::Greater)?;
+    let read = small(alloc, unit(alloc, 0, item)?)?;
+    assert_eq!(rt; read.main, at(4));
+    match read.items.as_slice() {
+        [SmallStmt::Assert(place, _)] => assert_eq!(rt; *place, at(7)),
+        _ => panic!(rt; "other items"),
     }
-    for text in NOT_SMALL {
-        assert!(rt; !is_small(rt.alloc(), text.as_bytes())?, "{text}");
-    }
-    for shape in NESTED {
-        let at_most = spelt(rt.alloc(), &shape, shape.most)?;
-        assert!(rt; is_small(rt.alloc(), at_most.as_slice())?, "{}", shape.head);
-        let past = spelt(rt.alloc(), &shape, shape.most.saturating_add(1))?;
-        assert!(rt; !is_small(rt.alloc(), past.as_slice())?, "{}", shape.head);
+    Ok(())
+}
+
+#[test]
+fn other_operators_and_names_are_not(rt: HostRuntime) -> Result<(), Fail> {
+    let alloc = rt.alloc();
+    let cases = [
+        unit(alloc, 0, asserted(alloc, 1, BinaryOperator::Divide)?)?,
+        unit(alloc, 0, asserted(alloc, 3, BinaryOperator::Greater)?)?,
+        unit(alloc, 3, asserted(alloc, 1, BinaryOperator::Greater)?)?,
+        unit(alloc, 0, asserted(alloc, 9, BinaryOperator::Greater)?)?,
+    ];
+    for case in cases {
+        match small(alloc, case) {
+            Err(fault) => assert_eq!(rt; fault, SmallError::NotSmall),
+            Ok(_) => panic!(rt; "of the small form"),
+        }
     }
     Ok(())
 }

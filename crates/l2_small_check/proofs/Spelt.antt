@@ -6,16 +6,17 @@ use Rattle.std.proofs.Math.Seq.{take-append_seam, take-length}
 use Rattle.l2_syntax.specs.declared.place.Place.{Place}
 use Rattle.l2_bits.specs.Types.{int_type}
 use Rattle.l2_syntax.specs.declared.program.Kind.TheVariants.{Assertion}
-use Rattle.l2_syntax.specs.declared.raw.UnaryOperator.{UnaryOperator}
-use Rattle.l2_syntax.specs.declared.raw.BinaryOperator.{BinaryOperator}
+use Rattle.l2_syntax.specs.declared.operators.UnaryOperator.{UnaryOperator}
+use Rattle.l2_syntax.specs.declared.operators.BinaryOperator.{BinaryOperator}
 use Rattle.l2_syntax.specs.declared.program.ObjectInfo.{ObjectInfo}
-use Rattle.l2_syntax.specs.Raw as raw
-use Rattle.l2_syntax.specs.Raw.{ExprTree, StmtTree, StmtTrees, UnitTree}
+use Rattle.l2_small.specs.SmallTrees as small
+use Rattle.l2_small.specs.SmallTrees.{SmallExprTree, SmallStmtTree, SmallStmtTrees, SmallUnitTree}
 use Rattle.l2_syntax.specs.Checked as checked
 use Rattle.l2_syntax.specs.Checked.{TypedTree, CheckedTree, CheckedTrees}
 use Rattle.l2_syntax.specs.Programs.{ProgramTree}
 use Rattle.l2_small_check.specs.declared.entry.Entry.{Entry}
-use Rattle.l2_small_check.specs.Elaboration.{Scope, Found, Elaborated, lookup, variable, and_then, stays, made, within, typed, declare, is_declared, most_cells, object_number, loop_number, check_number, with_loop, with_check, chain, block, item, items, nothing_found, program_with, program_of}
+use Rattle.l2_small.specs.SmallForm.{and_then}
+use Rattle.l2_small_check.specs.Elaboration.{Scope, Found, Elaborated, lookup, variable, stays, made, within, typed, declare, is_declared, most_cells, object_number, loop_number, check_number, with_loop, with_check, chain, block, item, items, nothing_found, program_with, program_of}
 use Rattle.l2_small_check.proofs.Places.{is_declared_more}
 use Rattle.l2_small_check.specs.Spelling.{AreApart, found_in, plain, plain_item, plain_items, nowhere, object_of, spelt, spelt_item, spelt_onto, spelt_bodies}
 
@@ -85,35 +86,35 @@ module _ (f : Found) where
 
   -- ---- expressions
 
-  abbrev SaysValue : Scope → ExprTree → Option TypedTree → Type 0
+  abbrev SaysValue : Scope → SmallExprTree → Option TypedTree → Type 0
   SaysValue scope e None = Unit {0}
   SaysValue scope e (Some t) = Sound scope → spelt f t ≡ plain e
 
-  says_name : (scope : Scope) (n : ℕ) (p : Place) (x : Option ℕ) → Finds scope n x → SaysValue scope (raw.Name n p) (option_map (λ o. checked.Read (checked.Object o)) x)
+  says_name : (scope : Scope) (n : ℕ) (p : Place) (x : Option ℕ) → Finds scope n x → SaysValue scope (small.Name n p) (option_map (λ o. checked.Read (checked.Object o)) x)
   says_name scope n p None h = tt
-  says_name scope n p (Some o) h = λ all. ap (λ m. raw.Name m nowhere) (h all)
+  says_name scope n p (Some o) h = λ all. ap (λ m. small.Name m nowhere) (h all)
 
-  says_unary : (scope : Scope) (op : UnaryOperator) (e : ExprTree) (x : Option TypedTree) → SaysValue scope e x → SaysValue scope (raw.Unary op e) (option_map (checked.Unary op int_type) x)
+  says_unary : (scope : Scope) (op : UnaryOperator) (e : SmallExprTree) (x : Option TypedTree) → SaysValue scope e x → SaysValue scope (small.Unary op e) (option_map (checked.Unary op int_type) x)
   says_unary scope op e None h = tt
-  says_unary scope op e (Some t) h = λ all. ap (raw.Unary op) (h all)
+  says_unary scope op e (Some t) h = λ all. ap (small.Unary op) (h all)
 
-  says_binary : (scope : Scope) (op : BinaryOperator) (e d : ExprTree) (x y : Option TypedTree) → SaysValue scope e x → SaysValue scope d y →
-      SaysValue scope (raw.Binary op e d) (and_then x (λ a. option_map (checked.Binary op int_type a) y))
+  says_binary : (scope : Scope) (op : BinaryOperator) (e d : SmallExprTree) (x y : Option TypedTree) → SaysValue scope e x → SaysValue scope d y →
+      SaysValue scope (small.Binary op e d) (and_then x (λ a. option_map (checked.Binary op int_type a) y))
   says_binary scope op e d None y h k = tt
   says_binary scope op e d (Some t) None h k = tt
-  says_binary scope op e d (Some t) (Some u) h k = λ all. ap (λ a. raw.Binary op a (spelt f u)) (h all) ∙ ap (raw.Binary op (plain e)) (k all)
+  says_binary scope op e d (Some t) (Some u) h k = λ all. ap (λ a. small.Binary op a (spelt f u)) (h all) ∙ ap (small.Binary op (plain e)) (k all)
 
-  says_parenthesised : (scope : Scope) (e : ExprTree) (x : Option TypedTree) → SaysValue scope e x → SaysValue scope (raw.Parenthesised e) x
+  says_parenthesised : (scope : Scope) (e : SmallExprTree) (x : Option TypedTree) → SaysValue scope e x → SaysValue scope (small.Parenthesised e) x
   says_parenthesised scope e None h = tt
   says_parenthesised scope e (Some t) h = h
 
-  value_says : (scope : Scope) (e : ExprTree) → SaysValue scope e (typed scope e)
-  value_says scope (raw.Name n p) = says_name scope n p (lookup scope n) (finds scope n)
-  value_says scope (raw.Number z) = λ all. refl
-  value_says scope (raw.Choice p) = λ all. refl
-  value_says scope (raw.Parenthesised e) = says_parenthesised scope e (typed scope e) (value_says scope e)
-  value_says scope (raw.Unary op e) = says_unary scope op e (typed scope e) (value_says scope e)
-  value_says scope (raw.Binary op e d) = says_binary scope op e d (typed scope e) (typed scope d) (value_says scope e) (value_says scope d)
+  value_says : (scope : Scope) (e : SmallExprTree) → SaysValue scope e (typed scope e)
+  value_says scope (small.Name n p) = says_name scope n p (lookup scope n) (finds scope n)
+  value_says scope (small.Number z) = λ all. refl
+  value_says scope (small.Choice p) = λ all. refl
+  value_says scope (small.Parenthesised e) = says_parenthesised scope e (typed scope e) (value_says scope e)
+  value_says scope (small.Unary op e) = says_unary scope op e (typed scope e) (value_says scope e)
+  value_says scope (small.Binary op e d) = says_binary scope op e d (typed scope e) (typed scope d) (value_says scope e) (value_says scope d)
 
   -- ---- statements
 
@@ -126,13 +127,13 @@ module _ (f : Found) where
   SaysDeclared n p scope found None = Unit {0}
   SaysDeclared n p scope found (Some d) = SaysAt scope found d.scope d.found (((object_of f d.tree).name ≡ n) × ((object_of f d.tree).place ≡ p))
 
-  abbrev Says : StmtTree → Scope → Found → Option (Elaborated CheckedTree) → Type 0
+  abbrev Says : SmallStmtTree → Scope → Found → Option (Elaborated CheckedTree) → Type 0
   Says s scope found None = Unit {0}
   Says s scope found (Some r) = SaysAt scope found r.scope r.found (spelt_item f r.tree ≡ plain_item s)
 
-  abbrev SaysAll : StmtTrees → Scope → Found → Option (Elaborated (List CheckedTree)) → Type 0
+  abbrev SaysAll : SmallStmtTrees → Scope → Found → Option (Elaborated (List CheckedTree)) → Type 0
   SaysAll all scope found None = Unit {0}
-  SaysAll all scope found (Some r) = SaysAt scope found r.scope r.found (spelt_onto f raw.none (chain r.tree) ≡ plain_items all)
+  SaysAll all scope found (Some r) = SaysAt scope found r.scope r.found (spelt_onto f small.none (chain r.tree) ≡ plain_items all)
 
   declared_says : (scope : Scope) (found : Found) (n : ℕ) (p : Place) → SaysDeclared n p scope found (declare scope found n p)
   declared_says scope found n p = go (is_declared found.objects n || nat_lt most_cells (object_number found)) refl where
@@ -155,64 +156,64 @@ module _ (f : Found) where
       says = λ g all. (sound_more scope (record { name = n; object = object_number found }) all (ap (λ o. o.name) (it_is g)), (ap (λ o. o.name) (it_is g), ap (λ o. o.place) (it_is g)));
     }
 
-  says_block : (all : StmtTrees) (scope : Scope) (found : Found) (x : Option (Elaborated (List CheckedTree))) → SaysAll all scope found x →
-      Says (raw.Block all) scope found (option_map (made block) (within scope x))
+  says_block : (all : SmallStmtTrees) (scope : Scope) (found : Found) (x : Option (Elaborated (List CheckedTree))) → SaysAll all scope found x →
+      Says (small.Block all) scope found (option_map (made block) (within scope x))
   says_block all scope found None h = tt
-  says_block all scope found (Some r) h = record { grows = h.grows; apart = h.apart; says = λ g sound. (sound, ap raw.Block (h.says g sound).1) }
+  says_block all scope found (Some r) h = record { grows = h.grows; apart = h.apart; says = λ g sound. (sound, ap small.Block (h.says g sound).1) }
 
   says_declaration : (n : ℕ) (p : Place) (scope : Scope) (found : Found) (x : Option (Elaborated ℕ)) → SaysDeclared n p scope found x →
-      Says (raw.Declare n p) scope found (option_map (made checked.Declare) x)
+      Says (small.Declare n p) scope found (option_map (made checked.Declare) x)
   says_declaration n p scope found None h = tt
   says_declaration n p scope found (Some d) h = record {
     grows = h.grows;
     apart = h.apart;
     says = λ g sound.
-        let k = h.says g sound in (k.0, ap (λ m. raw.Declare m (object_of f d.tree).place) k.1.0 ∙ ap (raw.Declare n) k.1.1);
+        let k = h.says g sound in (k.0, ap (λ m. small.Declare m (object_of f d.tree).place) k.1.0 ∙ ap (small.Declare n) k.1.1);
   }
 
-  says_initialise : (n : ℕ) (p : Place) (e : ExprTree) (scope : Scope) (found : Found) (x : Option (Elaborated ℕ)) → SaysDeclared n p scope found x →
-      Says (raw.Initialise n p e) scope found (and_then x (λ d. option_map (λ t. stays d.scope d.found (checked.Initialise d.tree t)) (typed d.scope e)))
+  says_initialise : (n : ℕ) (p : Place) (e : SmallExprTree) (scope : Scope) (found : Found) (x : Option (Elaborated ℕ)) → SaysDeclared n p scope found x →
+      Says (small.Initialise n p e) scope found (and_then x (λ d. option_map (λ t. stays d.scope d.found (checked.Initialise d.tree t)) (typed d.scope e)))
   says_initialise n p e scope found None h = tt
   says_initialise n p e scope found (Some d) h = go (typed d.scope e) (value_says d.scope e) where
-    go : (y : Option TypedTree) → SaysValue d.scope e y → Says (raw.Initialise n p e) scope found (option_map (λ t. stays d.scope d.found (checked.Initialise d.tree t)) y)
+    go : (y : Option TypedTree) → SaysValue d.scope e y → Says (small.Initialise n p e) scope found (option_map (λ t. stays d.scope d.found (checked.Initialise d.tree t)) y)
     go None v = tt
     go (Some t) v = record {
       grows = h.grows;
       apart = h.apart;
       says = λ g sound.
           let k = h.says g sound in
-          (k.0, ap (λ m. raw.Initialise m (object_of f d.tree).place (spelt f t)) k.1.0 ∙ ap (λ q. raw.Initialise n q (spelt f t)) k.1.1 ∙ ap (raw.Initialise n p) (v k.0));
+          (k.0, ap (λ m. small.Initialise m (object_of f d.tree).place (spelt f t)) k.1.0 ∙ ap (λ q. small.Initialise n q (spelt f t)) k.1.1 ∙ ap (small.Initialise n p) (v k.0));
     }
 
-  says_assign : (n : ℕ) (p : Place) (e : ExprTree) (scope : Scope) (found : Found) (x : Option ℕ) (y : Option TypedTree) → Finds scope n x → SaysValue scope e y →
-      Says (raw.Assign n p e) scope found (and_then x (λ o. option_map (λ t. stays scope found (checked.Evaluate (checked.Assign (checked.Object o) t))) y))
+  says_assign : (n : ℕ) (p : Place) (e : SmallExprTree) (scope : Scope) (found : Found) (x : Option ℕ) (y : Option TypedTree) → Finds scope n x → SaysValue scope e y →
+      Says (small.Assign n p e) scope found (and_then x (λ o. option_map (λ t. stays scope found (checked.Evaluate (checked.Assign (checked.Object o) t))) y))
   says_assign n p e scope found None y h v = tt
   says_assign n p e scope found (Some o) None h v = tt
   says_assign n p e scope found (Some o) (Some t) h v = record {
     grows = grows_not found;
     apart = λ a. a;
     says = λ g sound.
-        (sound, ap (λ m. raw.Assign m nowhere (spelt f t)) (h sound) ∙ ap (raw.Assign n nowhere) (v sound));
+        (sound, ap (λ m. small.Assign m nowhere (spelt f t)) (h sound) ∙ ap (small.Assign n nowhere) (v sound));
   }
 
-  says_if : (e : ExprTree) (s : StmtTree) (scope : Scope) (found : Found) (x : Option TypedTree) (y : Option (Elaborated CheckedTree)) → SaysValue scope e x → Says s scope found y →
-      Says (raw.If e s) scope found (and_then x (λ t. option_map (made (checked.If t)) (within scope y)))
+  says_if : (e : SmallExprTree) (s : SmallStmtTree) (scope : Scope) (found : Found) (x : Option TypedTree) (y : Option (Elaborated CheckedTree)) → SaysValue scope e x → Says s scope found y →
+      Says (small.If e s) scope found (and_then x (λ t. option_map (made (checked.If t)) (within scope y)))
   says_if e s scope found None y v h = tt
   says_if e s scope found (Some t) None v h = tt
   says_if e s scope found (Some t) (Some r) v h = record {
     grows = h.grows;
     apart = h.apart;
     says = λ g sound.
-        (sound, ap (λ d. raw.If d (spelt_item f r.tree)) (v sound) ∙ ap (raw.If (plain e)) (h.says g sound).1);
+        (sound, ap (λ d. small.If d (spelt_item f r.tree)) (v sound) ∙ ap (small.If (plain e)) (h.says g sound).1);
   }
 
-  says_if_else : (e : ExprTree) (s z : StmtTree) (scope : Scope) (found : Found) (x : Option TypedTree) (y : Option (Elaborated CheckedTree)) → SaysValue scope e x → Says s scope found y →
+  says_if_else : (e : SmallExprTree) (s z : SmallStmtTree) (scope : Scope) (found : Found) (x : Option TypedTree) (y : Option (Elaborated CheckedTree)) → SaysValue scope e x → Says s scope found y →
       ((later : Found) → Says z scope later (item scope later z)) →
-      Says (raw.IfElse e s z) scope found (and_then x (λ t. and_then (within scope y) (λ r. option_map (made (checked.IfElse t r.tree)) (within scope (item scope r.found z)))))
+      Says (small.IfElse e s z) scope found (and_then x (λ t. and_then (within scope y) (λ r. option_map (made (checked.IfElse t r.tree)) (within scope (item scope r.found z)))))
   says_if_else e s z scope found None y v h other = tt
   says_if_else e s z scope found (Some t) None v h other = tt
   says_if_else e s z scope found (Some t) (Some r) v h other = go (item scope r.found z) (other r.found) where
-    go : (w : Option (Elaborated CheckedTree)) → Says z scope r.found w → Says (raw.IfElse e s z) scope found (option_map (made (checked.IfElse t r.tree)) (within scope w))
+    go : (w : Option (Elaborated CheckedTree)) → Says z scope r.found w → Says (small.IfElse e s z) scope found (option_map (made (checked.IfElse t r.tree)) (within scope w))
     go None k = tt
     go (Some q) k = record {
       grows = grows_trans found r.found q.found h.grows k.grows;
@@ -220,11 +221,11 @@ module _ (f : Found) where
       says = λ g sound.
           let first = h.says (grows_trans r.found q.found f k.grows g) sound in
           let second = k.says g sound in
-          (sound, ap (λ d. raw.IfElse d (spelt_item f r.tree) (spelt_item f q.tree)) (v sound) ∙ ap (λ d. raw.IfElse (plain e) d (spelt_item f q.tree)) first.1 ∙ ap (raw.IfElse (plain e) (plain_item s)) second.1);
+          (sound, ap (λ d. small.IfElse d (spelt_item f r.tree) (spelt_item f q.tree)) (v sound) ∙ ap (λ d. small.IfElse (plain e) d (spelt_item f q.tree)) first.1 ∙ ap (small.IfElse (plain e) (plain_item s)) second.1);
     }
 
-  says_while : (p : Place) (e : ExprTree) (s : StmtTree) (scope : Scope) (found : Found) (x : Option TypedTree) (y : Option (Elaborated CheckedTree)) → SaysValue scope e x → Says s scope (with_loop found p) y →
-      Says (raw.While p e s) scope found (and_then x (λ t. option_map (made (checked.While (loop_number found) t)) (within scope y)))
+  says_while : (p : Place) (e : SmallExprTree) (s : SmallStmtTree) (scope : Scope) (found : Found) (x : Option TypedTree) (y : Option (Elaborated CheckedTree)) → SaysValue scope e x → Says s scope (with_loop found p) y →
+      Says (small.While p e s) scope found (and_then x (λ t. option_map (made (checked.While (loop_number found) t)) (within scope y)))
   says_while p e s scope found None y v h = tt
   says_while p e s scope found (Some t) None v h = tt
   says_while p e s scope found (Some t) (Some r) v h =
@@ -236,11 +237,11 @@ module _ (f : Found) where
             let all = grows_trans (with_loop found p) r.found f h.grows g in
             let i : loop_number found - 1 ≡ length found.loops = omega arith in
             let it = ap (λ i. get_or f.loops i (record { place = nowhere; function = 0; mods = []; vars = [] })) i ∙ at_end found.loops (record { place = p; function = 1; mods = []; vars = [] }) f.loops (record { place = nowhere; function = 0; mods = []; vars = [] }) all.loops in
-            (sound, ap (λ l. raw.While l.place (spelt f t) (spelt_item f r.tree)) it ∙ ap (λ d. raw.While p d (spelt_item f r.tree)) (v sound) ∙ ap (raw.While p (plain e)) (h.says g sound).1);
+            (sound, ap (λ l. small.While l.place (spelt f t) (spelt_item f r.tree)) it ∙ ap (λ d. small.While p d (spelt_item f r.tree)) (v sound) ∙ ap (small.While p (plain e)) (h.says g sound).1);
       }
 
-  says_assert : (p : Place) (e : ExprTree) (scope : Scope) (found : Found) (x : Option TypedTree) → SaysValue scope e x →
-      Says (raw.Assert p e) scope found (option_map (λ t. stays scope (with_check found p) (checked.Evaluate (checked.Assert (check_number found) t))) x)
+  says_assert : (p : Place) (e : SmallExprTree) (scope : Scope) (found : Found) (x : Option TypedTree) → SaysValue scope e x →
+      Says (small.Assert p e) scope found (option_map (λ t. stays scope (with_check found p) (checked.Evaluate (checked.Assert (check_number found) t))) x)
   says_assert p e scope found None v = tt
   says_assert p e scope found (Some t) v = record {
     grows = record { objects = take-length found.objects; loops = take-length found.loops; checks = take-append_seam found.checks _ };
@@ -248,23 +249,23 @@ module _ (f : Found) where
     says = λ g sound.
         let i : check_number found - 1 ≡ length found.checks = omega arith in
         let it = ap (λ i. get_or f.checks i (record { place = nowhere; kind = Assertion })) i ∙ at_end found.checks (record { place = p; kind = Assertion }) f.checks (record { place = nowhere; kind = Assertion }) g.checks in
-        (sound, ap (λ c. raw.Assert c.place (spelt f t)) it ∙ ap (raw.Assert p) (v sound));
+        (sound, ap (λ c. small.Assert c.place (spelt f t)) it ∙ ap (small.Assert p) (v sound));
   }
 
-  says_return : (e : ExprTree) (scope : Scope) (found : Found) (x : Option TypedTree) → SaysValue scope e x → Says (raw.Return e) scope found (option_map (λ t. stays scope found (checked.Return t)) x)
+  says_return : (e : SmallExprTree) (scope : Scope) (found : Found) (x : Option TypedTree) → SaysValue scope e x → Says (small.Return e) scope found (option_map (λ t. stays scope found (checked.Return t)) x)
   says_return e scope found None v = tt
-  says_return e scope found (Some t) v = record { grows = grows_not found; apart = λ a. a; says = λ g sound. (sound, ap raw.Return (v sound)) }
+  says_return e scope found (Some t) v = record { grows = grows_not found; apart = λ a. a; says = λ g sound. (sound, ap small.Return (v sound)) }
 
-  spelt_end : (ts : StmtTrees) (all : List CheckedTree) (t : CheckedTree) → spelt_onto f ts (chain (all ++ t ∷ [])) ≡ raw.also (spelt_onto f ts (chain all)) (spelt_item f t)
+  spelt_end : (ts : SmallStmtTrees) (all : List CheckedTree) (t : CheckedTree) → spelt_onto f ts (chain (all ++ t ∷ [])) ≡ small.also (spelt_onto f ts (chain all)) (spelt_item f t)
   spelt_end ts [] t = refl
-  spelt_end ts (s ∷ rest) t = spelt_end (raw.also ts (spelt_item f s)) rest t
+  spelt_end ts (s ∷ rest) t = spelt_end (small.also ts (spelt_item f s)) rest t
 
-  says_also : (all : StmtTrees) (s : StmtTree) (scope : Scope) (found : Found) (x : Option (Elaborated (List CheckedTree))) → SaysAll all scope found x →
+  says_also : (all : SmallStmtTrees) (s : SmallStmtTree) (scope : Scope) (found : Found) (x : Option (Elaborated (List CheckedTree))) → SaysAll all scope found x →
       ((there : Scope) (later : Found) → Says s there later (item there later s)) →
-      SaysAll (raw.also all s) scope found (and_then x (λ r. option_map (made (λ t. r.tree ++ t ∷ [])) (item r.scope r.found s)))
+      SaysAll (small.also all s) scope found (and_then x (λ r. option_map (made (λ t. r.tree ++ t ∷ [])) (item r.scope r.found s)))
   says_also all s scope found None h next = tt
   says_also all s scope found (Some r) h next = go (item r.scope r.found s) (next r.scope r.found) where
-    go : (w : Option (Elaborated CheckedTree)) → Says s r.scope r.found w → SaysAll (raw.also all s) scope found (option_map (made (λ t. r.tree ++ t ∷ [])) w)
+    go : (w : Option (Elaborated CheckedTree)) → Says s r.scope r.found w → SaysAll (small.also all s) scope found (option_map (made (λ t. r.tree ++ t ∷ [])) w)
     go None k = tt
     go (Some q) k = record {
       grows = grows_trans found r.found q.found h.grows k.grows;
@@ -272,37 +273,37 @@ module _ (f : Found) where
       says = λ g sound.
           let first = h.says (grows_trans r.found q.found f k.grows g) sound in
           let second = k.says g first.0 in
-          (second.0, spelt_end raw.none r.tree q.tree ∙ ap (λ ts. raw.also ts (spelt_item f q.tree)) first.1 ∙ ap (raw.also (plain_items all)) second.1);
+          (second.0, spelt_end small.none r.tree q.tree ∙ ap (λ ts. small.also ts (spelt_item f q.tree)) first.1 ∙ ap (small.also (plain_items all)) second.1);
     }
 
   mutual
-    item_says : (scope : Scope) (found : Found) (s : StmtTree) → Says s scope found (item scope found s)
-    item_says scope found (raw.Block all) = says_block all scope found (items scope found all) (items_says scope found all)
-    item_says scope found (raw.Declare n p) = says_declaration n p scope found (declare scope found n p) (declared_says scope found n p)
-    item_says scope found (raw.Initialise n p e) = says_initialise n p e scope found (declare scope found n p) (declared_says scope found n p)
-    item_says scope found (raw.Assign n p e) = says_assign n p e scope found (lookup scope n) (typed scope e) (finds scope n) (value_says scope e)
-    item_says scope found (raw.If e s) = says_if e s scope found (typed scope e) (item scope found s) (value_says scope e) (item_says scope found s)
-    item_says scope found (raw.IfElse e s z) =
+    item_says : (scope : Scope) (found : Found) (s : SmallStmtTree) → Says s scope found (item scope found s)
+    item_says scope found (small.Block all) = says_block all scope found (items scope found all) (items_says scope found all)
+    item_says scope found (small.Declare n p) = says_declaration n p scope found (declare scope found n p) (declared_says scope found n p)
+    item_says scope found (small.Initialise n p e) = says_initialise n p e scope found (declare scope found n p) (declared_says scope found n p)
+    item_says scope found (small.Assign n p e) = says_assign n p e scope found (lookup scope n) (typed scope e) (finds scope n) (value_says scope e)
+    item_says scope found (small.If e s) = says_if e s scope found (typed scope e) (item scope found s) (value_says scope e) (item_says scope found s)
+    item_says scope found (small.IfElse e s z) =
         says_if_else e s z scope found (typed scope e) (item scope found s) (value_says scope e) (item_says scope found s) (λ later. item_says scope later z)
-    item_says scope found (raw.While p e s) =
+    item_says scope found (small.While p e s) =
         says_while p e s scope found (typed scope e) (item scope (with_loop found p) s) (value_says scope e) (item_says scope (with_loop found p) s)
-    item_says scope found (raw.Assert p e) = says_assert p e scope found (typed scope e) (value_says scope e)
-    item_says scope found (raw.Return e) = says_return e scope found (typed scope e) (value_says scope e)
+    item_says scope found (small.Assert p e) = says_assert p e scope found (typed scope e) (value_says scope e)
+    item_says scope found (small.Return e) = says_return e scope found (typed scope e) (value_says scope e)
 
-    items_says : (scope : Scope) (found : Found) (all : StmtTrees) → SaysAll all scope found (items scope found all)
-    items_says scope found raw.none = record { grows = grows_not found; apart = λ a. a; says = λ g sound. (sound, refl) }
-    items_says scope found (raw.also all s) = says_also all s scope found (items scope found all) (items_says scope found all) (λ there later. item_says there later s)
+    items_says : (scope : Scope) (found : Found) (all : SmallStmtTrees) → SaysAll all scope found (items scope found all)
+    items_says scope found small.none = record { grows = grows_not found; apart = λ a. a; says = λ g sound. (sound, refl) }
+    items_says scope found (small.also all s) = says_also all s scope found (items scope found all) (items_says scope found all) (λ there later. item_says there later s)
 
 -- the whole
-abbrev SaysUnit : UnitTree → Option ProgramTree → Type 0
+abbrev SaysUnit : SmallUnitTree → Option ProgramTree → Type 0
 SaysUnit u None = Unit {0}
-SaysUnit u (Some p) = spelt_bodies p ≡ raw.Block (plain_items u.items) ∷ []
+SaysUnit u (Some p) = spelt_bodies p ≡ small.Block (plain_items u.items) ∷ []
 
-says_unit : (u : UnitTree) (x : Option (Elaborated (List CheckedTree))) → ((f : Found) → SaysAll f u.items [] nothing_found x) → SaysUnit u (option_map (program_with u) x)
+says_unit : (u : SmallUnitTree) (x : Option (Elaborated (List CheckedTree))) → ((f : Found) → SaysAll f u.items [] nothing_found x) → SaysUnit u (option_map (program_with u) x)
 says_unit u None h = tt
-says_unit u (Some r) h = ap (λ ts. raw.Block ts ∷ []) ((h r.found).says (grows_not r.found) tt).1
+says_unit u (Some r) h = ap (λ ts. small.Block ts ∷ []) ((h r.found).says (grows_not r.found) tt).1
 
-pub unit_says : (u : UnitTree) (p : ProgramTree) → program_of u ≡ Some p → spelt_bodies p ≡ raw.Block (plain_items u.items) ∷ []
+pub unit_says : (u : SmallUnitTree) (p : ProgramTree) → program_of u ≡ Some p → spelt_bodies p ≡ small.Block (plain_items u.items) ∷ []
 unit_says u p e = subst (SaysUnit u) e (says_unit u (items [] nothing_found u.items) (λ f. items_says f [] nothing_found u.items))
 
 -- the objects of the whole
@@ -310,15 +311,15 @@ abbrev UnitApart : Option ProgramTree → Type 0
 UnitApart None = Unit {0}
 UnitApart (Some p) = Apart (found_in p)
 
-apart_unit : (u : UnitTree) (x : Option (Elaborated (List CheckedTree))) → SaysAll nothing_found u.items [] nothing_found x → UnitApart (option_map (program_with u) x)
+apart_unit : (u : SmallUnitTree) (x : Option (Elaborated (List CheckedTree))) → SaysAll nothing_found u.items [] nothing_found x → UnitApart (option_map (program_with u) x)
 apart_unit u None h = tt
 apart_unit u (Some r) h = h.apart (tt, omega arith)
 
-unit_apart : (u : UnitTree) (p : ProgramTree) → program_of u ≡ Some p → Apart (found_in p)
+unit_apart : (u : SmallUnitTree) (p : ProgramTree) → program_of u ≡ Some p → Apart (found_in p)
 unit_apart u p e = subst UnitApart e (apart_unit u (items [] nothing_found u.items) (items_says nothing_found [] nothing_found u.items))
 
-pub names_apart : (u : UnitTree) (p : ProgramTree) → program_of u ≡ Some p → AreApart p.objects
+pub names_apart : (u : SmallUnitTree) (p : ProgramTree) → program_of u ≡ Some p → AreApart p.objects
 names_apart u p e = (unit_apart u p e).0
 
-pub few_objects : (u : UnitTree) (p : ProgramTree) → program_of u ≡ Some p → length p.objects ≤ most_cells
+pub few_objects : (u : SmallUnitTree) (p : ProgramTree) → program_of u ≡ Some p → length p.objects ≤ most_cells
 few_objects u p e = (unit_apart u p e).1

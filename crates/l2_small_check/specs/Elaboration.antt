@@ -10,8 +10,9 @@ use Rattle.l2_syntax.specs.declared.program.ObjectInfo.{ObjectInfo}
 use Rattle.l2_syntax.specs.declared.program.LoopInfo.{LoopInfo}
 use Rattle.l2_syntax.specs.declared.program.CheckInfo.{CheckInfo}
 use Rattle.l2_syntax.specs.declared.token.Name.{Name}
-use Rattle.l2_syntax.specs.Raw as raw
-use Rattle.l2_syntax.specs.Raw.{ExprTree, StmtTree, StmtTrees, UnitTree}
+use Rattle.l2_small.specs.SmallForm.{and_then}
+use Rattle.l2_small.specs.SmallTrees as small
+use Rattle.l2_small.specs.SmallTrees.{SmallExprTree, SmallStmtTree, SmallStmtTrees, SmallUnitTree}
 use Rattle.l2_syntax.specs.Checked as checked
 use Rattle.l2_syntax.specs.Checked.{TypedTree, CheckedTree, CheckedTrees}
 use Rattle.l2_syntax.specs.Programs.{ProgramTree, FunctionTree}
@@ -55,11 +56,6 @@ stays scope found t = record { tree = t; scope = scope; found = found }
 abbrev pub made : {A B : Type 0} → (A → B) → Elaborated A → Elaborated B
 made f r = record { tree = f r.tree; scope = r.scope; found = r.found }
 
--- goes on where there is something
-abbrev pub and_then : {A B : Type 0} → Option A → (A → Option B) → Option B
-and_then None f = None
-and_then (Some a) f = f a
-
 -- names go out of scope at the end of the block or the statement that declares them (C11 6.2.1p4 and 6.8.4p3)
 abbrev pub within : {A : Type 0} → Scope → Option (Elaborated A) → Option (Elaborated A)
 within scope None = None
@@ -67,13 +63,13 @@ within scope (Some r) = Some (stays scope r.found r.tree)
 
 -- ---- expressions
 
-abbrev pub typed : Scope → ExprTree → Option TypedTree
-typed scope (raw.Name n p) = option_map (λ o. checked.Read (checked.Object o)) (lookup scope n)
-typed scope (raw.Number z) = Some (checked.Constant (cell.Number z))
-typed scope (raw.Choice p) = Some (checked.Choice int_type)
-typed scope (raw.Parenthesised e) = typed scope e
-typed scope (raw.Unary op e) = option_map (checked.Unary op int_type) (typed scope e)
-typed scope (raw.Binary op x y) = and_then (typed scope x) (λ a. option_map (checked.Binary op int_type a) (typed scope y))
+abbrev pub typed : Scope → SmallExprTree → Option TypedTree
+typed scope (small.Name n p) = option_map (λ o. checked.Read (checked.Object o)) (lookup scope n)
+typed scope (small.Number z) = Some (checked.Constant (cell.Number z))
+typed scope (small.Choice p) = Some (checked.Choice int_type)
+typed scope (small.Parenthesised e) = typed scope e
+typed scope (small.Unary op e) = option_map (checked.Unary op int_type) (typed scope e)
+typed scope (small.Binary op x y) = and_then (typed scope x) (λ a. option_map (checked.Binary op int_type a) (typed scope y))
 
 -- ---- statements
 
@@ -111,29 +107,29 @@ abbrev pub block : List CheckedTree → CheckedTree
 block all = checked.Block (chain all)
 
 abbrev mutual
-  pub item : Scope → Found → StmtTree → Option (Elaborated CheckedTree)
-  item scope found (raw.Block all) = option_map (made block) (within scope (items scope found all))
-  item scope found (raw.Declare n p) = option_map (made checked.Declare) (declare scope found n p)
-  item scope found (raw.Initialise n p e) =
+  pub item : Scope → Found → SmallStmtTree → Option (Elaborated CheckedTree)
+  item scope found (small.Block all) = option_map (made block) (within scope (items scope found all))
+  item scope found (small.Declare n p) = option_map (made checked.Declare) (declare scope found n p)
+  item scope found (small.Initialise n p e) =
       -- the name is in scope in its own initialiser (C11 6.2.1p7)
       and_then (declare scope found n p) (λ d. option_map (λ t. stays d.scope d.found (checked.Initialise d.tree t)) (typed d.scope e))
-  item scope found (raw.Assign n p e) =
+  item scope found (small.Assign n p e) =
       and_then (lookup scope n) (λ o. option_map (λ t. stays scope found (checked.Evaluate (checked.Assign (checked.Object o) t))) (typed scope e))
-  item scope found (raw.If e s) =
+  item scope found (small.If e s) =
       and_then (typed scope e) (λ t. option_map (made (checked.If t)) (within scope (item scope found s)))
-  item scope found (raw.IfElse e s z) =
+  item scope found (small.IfElse e s z) =
       and_then (typed scope e) (λ t. and_then (within scope (item scope found s)) (λ r.
       option_map (made (checked.IfElse t r.tree)) (within scope (item scope r.found z))))
-  item scope found (raw.While p e s) =
+  item scope found (small.While p e s) =
       and_then (typed scope e) (λ t.
       option_map (made (checked.While (loop_number found) t)) (within scope (item scope (with_loop found p) s)))
-  item scope found (raw.Assert p e) =
+  item scope found (small.Assert p e) =
       option_map (λ t. stays scope (with_check found p) (checked.Evaluate (checked.Assert (check_number found) t))) (typed scope e)
-  item scope found (raw.Return e) = option_map (λ t. stays scope found (checked.Return t)) (typed scope e)
+  item scope found (small.Return e) = option_map (λ t. stays scope found (checked.Return t)) (typed scope e)
 
-  pub items : Scope → Found → StmtTrees → Option (Elaborated (List CheckedTree))
-  items scope found raw.none = Some (stays scope found [])
-  items scope found (raw.also all s) =
+  pub items : Scope → Found → SmallStmtTrees → Option (Elaborated (List CheckedTree))
+  items scope found small.none = Some (stays scope found [])
+  items scope found (small.also all s) =
       and_then (items scope found all) (λ r. option_map (made (λ t. r.tree ++ t ∷ [])) (item r.scope r.found s))
 
 -- ---- units
@@ -145,10 +141,10 @@ abbrev pub main_name : Name
 main_name = record { bytes = codes "main" }
 
 -- the one function; its name stands behind the names of the text
-abbrev pub main_function : UnitTree → CheckedTree → FunctionTree
+abbrev pub main_function : SmallUnitTree → CheckedTree → FunctionTree
 main_function u body = record { name = length u.names; place = u.main; parameters = []; result = Integer int_type ∷ []; body = body }
 
-abbrev pub program_with : UnitTree → Elaborated (List CheckedTree) → ProgramTree
+abbrev pub program_with : SmallUnitTree → Elaborated (List CheckedTree) → ProgramTree
 program_with u r = record {
   objects = r.found.objects;
   functions = main_function u (block r.tree) ∷ [];
@@ -159,5 +155,5 @@ program_with u r = record {
   thresholds = [];
 }
 
-abbrev pub program_of : UnitTree → Option ProgramTree
+abbrev pub program_of : SmallUnitTree → Option ProgramTree
 program_of u = option_map (program_with u) (items [] nothing_found u.items)

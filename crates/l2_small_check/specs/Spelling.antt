@@ -6,7 +6,7 @@ use Rattle.l2_syntax.specs.declared.program.Kind.TheVariants.{Assertion}
 use Rattle.l2_syntax.specs.declared.program.ObjectInfo.{ObjectInfo}
 use Rattle.l2_syntax.specs.declared.program.LoopInfo.{LoopInfo}
 use Rattle.l2_syntax.specs.declared.program.CheckInfo.{CheckInfo}
-use Rattle.l2_syntax.specs.Raw.{ExprTree, Name, Number, Choice, Parenthesised, Unary, Binary, StmtTree, Block, Declare, Initialise, Assign, If, IfElse, While, Assert, Return, StmtTrees, none, also}
+use Rattle.l2_small.specs.SmallTrees.{SmallExprTree, Name, Number, Choice, Parenthesised, Unary, Binary, SmallStmtTree, Block, Declare, Initialise, Assign, If, IfElse, While, Assert, Return, SmallStmtTrees, none, also}
 use Rattle.l2_syntax.specs.Checked as checked
 use Rattle.l2_syntax.specs.Checked.{TypedTree, CheckedTree, CheckedTrees}
 use Rattle.l2_syntax.specs.Programs.{ProgramTree, FunctionTree}
@@ -17,7 +17,7 @@ use Rattle.l2_small_check.specs.Elaboration.{Found, variable, is_declared}
 abbrev pub nowhere : Place
 nowhere = record { offset = 0; line = 0; col = 0 }
 
-abbrev pub plain : ExprTree → ExprTree
+abbrev pub plain : SmallExprTree → SmallExprTree
 plain (Name n p) = Name n nowhere
 plain (Number z) = Number z
 plain (Choice p) = Choice nowhere
@@ -26,7 +26,7 @@ plain (Unary op e) = Unary op (plain e)
 plain (Binary op x y) = Binary op (plain x) (plain y)
 
 abbrev mutual
-  pub plain_item : StmtTree → StmtTree
+  pub plain_item : SmallStmtTree → SmallStmtTree
   plain_item (Block all) = Block (plain_items all)
   plain_item (Declare n p) = Declare n p
   plain_item (Initialise n p e) = Initialise n p (plain e)
@@ -37,7 +37,7 @@ abbrev mutual
   plain_item (Assert p e) = Assert p (plain e)
   plain_item (Return e) = Return (plain e)
 
-  pub plain_items : StmtTrees → StmtTrees
+  pub plain_items : SmallStmtTrees → SmallStmtTrees
   plain_items none = none
   plain_items (also all s) = also (plain_items all) (plain_item s)
 
@@ -58,7 +58,7 @@ abbrev pub check_of : Found → ℕ → CheckInfo
 check_of f c = slice_index_or f.checks (c - 1) (record { place = nowhere; kind = Assertion })
 
 -- what no text of the small form has is spelt 0
-abbrev pub spelt : Found → TypedTree → ExprTree
+abbrev pub spelt : Found → TypedTree → SmallExprTree
 spelt f (checked.Constant (cell.Number z)) = Number z
 spelt f (checked.Constant cell.Null) = Number (pos 0)
 spelt f (checked.Constant cell.Invalid) = Number (pos 0)
@@ -70,7 +70,7 @@ spelt f (checked.Binary op ty x y) = Binary op (spelt f x) (spelt f y)
 spelt f (checked.Assign l e) = Number (pos 0)
 spelt f (checked.Assert c e) = Number (pos 0)
 
-abbrev pub spelt_effect : Found → TypedTree → StmtTree
+abbrev pub spelt_effect : Found → TypedTree → SmallStmtTree
 spelt_effect f (checked.Constant v) = Block none
 spelt_effect f (checked.Choice ty) = Block none
 spelt_effect f (checked.Read l) = Block none
@@ -80,7 +80,7 @@ spelt_effect f (checked.Assign (checked.Object o) e) = Assign (object_of f o).na
 spelt_effect f (checked.Assert c e) = Assert (check_of f c).place (spelt f e)
 
 abbrev mutual
-  pub spelt_item : Found → CheckedTree → StmtTree
+  pub spelt_item : Found → CheckedTree → SmallStmtTree
   spelt_item f (checked.Block all) = Block (spelt_onto f none all)
   spelt_item f (checked.Declare o) = Declare (object_of f o).name (object_of f o).place
   spelt_item f (checked.Initialise o e) = Initialise (object_of f o).name (object_of f o).place (spelt f e)
@@ -90,7 +90,7 @@ abbrev mutual
   spelt_item f (checked.While l e s) = While (loop_of f l).place (spelt f e) (spelt_item f s)
   spelt_item f (checked.Return e) = Return (spelt f e)
 
-  pub spelt_onto : Found → StmtTrees → CheckedTrees → StmtTrees
+  pub spelt_onto : Found → SmallStmtTrees → CheckedTrees → SmallStmtTrees
   spelt_onto f ts checked.none = ts
   spelt_onto f ts (checked.more s rest) = spelt_onto f (also ts (spelt_item f s)) rest
 
@@ -98,5 +98,5 @@ abbrev pub found_in : ProgramTree → Found
 found_in p = record { objects = p.objects; loops = p.loops; checks = p.checks }
 
 -- the bodies of a program's functions, as texts
-abbrev pub spelt_bodies : ProgramTree → List StmtTree
+abbrev pub spelt_bodies : ProgramTree → List SmallStmtTree
 spelt_bodies p = map (λ (g : FunctionTree). spelt_item (found_in p) g.body) p.functions

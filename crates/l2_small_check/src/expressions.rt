@@ -1,6 +1,6 @@
 // Expressions.
 ghost use Rattle.std.specs.Prelude.{◌≡◌, Some, None, IfOk, IsErrOf};
-ghost use Rattle.l2_syntax.specs.Raw.{expr_tree};
+ghost use Rattle.l2_small.specs.SmallTrees.{small_expr_tree};
 ghost use Rattle.l2_syntax.specs.Checked.{typed_tree};
 ghost use Rattle.l2_small_check.specs.Elaboration.{typed};
 
@@ -8,28 +8,29 @@ use crate::error::CheckError;
 use crate::make::{binary, unary};
 use crate::table::Table;
 use l2_bits::Ty;
-use l2_syntax::{CellValue, Expr, Lvalue, Typed};
+use l2_small::SmallExpr;
+use l2_syntax::{CellValue, Lvalue, Typed};
 use std::alloc::Global;
 
 /// An expression with its names resolved.
 #[tactic(auto, using(crate::proofs::Steps::steps))]
-pub fn typed(alloc: Global, table: &Table, e: &Expr) -> Result<Typed, CheckError>
-    ensures ok { IfOk result (λ t. typed table.now.scope (expr_tree e.now) ≡ Some (typed_tree t)) }
-    ensures not_small { IsErrOf result CheckError.NotSmall → typed table.now.scope (expr_tree e.now) ≡ None }
+pub fn typed(alloc: Global, table: &Table, e: &SmallExpr) -> Result<Typed, CheckError>
+    ensures ok { IfOk result (λ t. typed table.now.scope (small_expr_tree e.now) ≡ Some (typed_tree t)) }
+    ensures not_small { IsErrOf result CheckError.NotSmall → typed table.now.scope (small_expr_tree e.now) ≡ None }
 {
     match e {
-        Expr::Name(name, _) => match table.lookup(*name) {
+        SmallExpr::Name(name, _) => match table.lookup(*name) {
             Some(object) => Ok(Typed::Read(Lvalue::Object(object))),
             None => Err(CheckError::NotSmall),
         },
-        Expr::Number(value) => Ok(Typed::Constant(CellValue::Number(*value))),
-        Expr::Choice(_) => Ok(Typed::Choice(Ty::INT)),
-        Expr::Parenthesised(e) => typed(alloc, table, e),
-        Expr::Unary(operator, e) => match typed(alloc, table, e) {
+        SmallExpr::Number(value) => Ok(Typed::Constant(CellValue::Number(*value))),
+        SmallExpr::Choice(_) => Ok(Typed::Choice(Ty::INT)),
+        SmallExpr::Parenthesised(e) => typed(alloc, table, e),
+        SmallExpr::Unary(operator, e) => match typed(alloc, table, e) {
             Ok(operand) => unary(alloc, *operator, operand),
             Err(f) => Err(f),
         },
-        Expr::Binary(operator, x, y) => {
+        SmallExpr::Binary(operator, x, y) => {
             let left = typed(alloc, table, x)?;
             let right = typed(alloc, table, y)?;
             binary(alloc, *operator, left, right)

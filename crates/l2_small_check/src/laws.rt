@@ -1,6 +1,6 @@
 //! What holds of the definitions: functions without effect whose contracts are the laws.
 ghost use Rattle.std.specs.Prelude.{◌≡◌, ◌≤◌, [], ◌∷◌, Some, length};
-ghost use Rattle.l2_syntax.specs.Raw.{Block, UnitTree};
+ghost use Rattle.l2_small.specs.SmallTrees.{Block, SmallUnitTree};
 ghost use Rattle.l2_syntax.specs.Programs.{ProgramTree};
 ghost use Rattle.l2_small_check.specs.Elaboration.{program_of, most_cells};
 ghost use Rattle.l2_small_check.specs.Spelling.{plain_items, spelt_bodies, AreApart};
@@ -9,12 +9,12 @@ ghost use Rattle.l2_small_check.specs.Spelling.{plain_items, spelt_bodies, AreAp
 /// parentheses and for the places of the names that expressions and assignments use.
 #[tactic(auto, using(crate::proofs::Spelt::unit_says))]
 pub fn programs_say_what_texts_say()
-    ensures { (u : UnitTree) (p : ProgramTree) → program_of u ≡ Some p → spelt_bodies p ≡ Block (plain_items u.items) ∷ [] }
+    ensures { (u : SmallUnitTree) (p : ProgramTree) → program_of u ≡ Some p → spelt_bodies p ≡ Block (plain_items u.items) ∷ [] }
 {}
 
 /// Each name is declared once, and there are at most 65,536 cells.
 #[tactic(auto, using(crate::proofs::Spelt::names_apart, crate::proofs::Spelt::few_objects))]
 pub fn names_are_declared_once()
-    ensures once { (u : UnitTree) (p : ProgramTree) → program_of u ≡ Some p → AreApart p.objects }
-    ensures cells { (u : UnitTree) (p : ProgramTree) → program_of u ≡ Some p → length p.objects ≤ most_cells }
+    ensures once { (u : SmallUnitTree) (p : ProgramTree) → program_of u ≡ Some p → AreApart p.objects }
+    ensures cells { (u : SmallUnitTree) (p : ProgramTree) → program_of u ≡ Some p → length p.objects ≤ most_cells }
 {}

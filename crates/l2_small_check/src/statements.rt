@@ -1,6 +1,6 @@
 // Statements.
 ghost use Rattle.std.specs.Prelude.{◌≡◌, Some, None, map, option_map, IfOk, IsErrOf};
-ghost use Rattle.l2_syntax.specs.Raw.{none, Initialise, Assign, Assert, expr_tree, stmt_tree, stmts_onto};
+ghost use Rattle.l2_small.specs.SmallTrees.{none, Initialise, Assign, Assert, small_expr_tree, small_stmt_tree, small_stmts_onto};
 ghost use Rattle.l2_syntax.specs.Checked.{checked_tree};
 ghost use Rattle.l2_small_check.specs.Elaboration.{item, items, within, made, block};
 ghost use Rattle.l2_small_check.specs.Tables.{elaborated, Keeps};
@@ -9,7 +9,8 @@ use crate::error::CheckError;
 use crate::expressions::typed;
 use crate::make::{assertion, assignment, if_else, if_then, while_loop};
 use crate::table::Table;
-use l2_syntax::{Checked, Expr, Place, Stmt};
+use l2_small::{SmallExpr, SmallStmt};
+use l2_syntax::{Checked, Place};
 use std::alloc::Global;
 
 /// `int NAME = e;`.
@@ -19,10 +20,10 @@ fn initialise(
     table: &mut Table,
     name: u32,
     place: Place,
-    e: &Expr,
+    e: &SmallExpr,
 ) -> Result<Checked, CheckError>
-    ensures ok { IfOk result (λ t. item table.old.scope table.old.found (Initialise name place (expr_tree e.now)) ≡ Some (elaborated (checked_tree t) table.new)) }
-    ensures not_small { IsErrOf result CheckError.NotSmall → item table.old.scope table.old.found (Initialise name place (expr_tree e.now)) ≡ None }
+    ensures ok { IfOk result (λ t. item table.old.scope table.old.found (Initialise name place (small_expr_tree e.now)) ≡ Some (elaborated (checked_tree t) table.new)) }
+    ensures not_small { IsErrOf result CheckError.NotSmall → item table.old.scope table.old.found (Initialise name place (small_expr_tree e.now)) ≡ None }
     ensures keeps { IfOk result (λ t. Keeps table.old.scope table.new.scope) }
 {
     let object = table.declare(alloc, name, place)?;
@@ -37,10 +38,10 @@ fn assign(
     table: &Table,
     name: u32,
     place: Place,
-    e: &Expr,
+    e: &SmallExpr,
 ) -> Result<Checked, CheckError>
-    ensures ok { IfOk result (λ t. item table.now.scope table.now.found (Assign name place (expr_tree e.now)) ≡ Some (elaborated (checked_tree t) table.now)) }
-    ensures not_small { IsErrOf result CheckError.NotSmall → item table.now.scope table.now.found (Assign name place (expr_tree e.now)) ≡ None }
+    ensures ok { IfOk result (λ t. item table.now.scope table.now.found (Assign name place (small_expr_tree e.now)) ≡ Some (elaborated (checked_tree t) table.now)) }
+    ensures not_small { IsErrOf result CheckError.NotSmall → item table.now.scope table.now.found (Assign name place (small_expr_tree e.now)) ≡ None }
 {
     match table.lookup(name) {
         Some(object) => {
@@ -57,10 +58,10 @@ fn assert_that(
     alloc: Global,
     table: &mut Table,
     place: Place,
-    e: &Expr,
+    e: &SmallExpr,
 ) -> Result<Checked, CheckError>
-    ensures ok { IfOk result (λ t. item table.old.scope table.old.found (Assert place (expr_tree e.now)) ≡ Some (elaborated (checked_tree t) table.new)) }
-    ensures not_small { IsErrOf result CheckError.NotSmall → item table.old.scope table.old.found (Assert place (expr_tree e.now)) ≡ None }
+    ensures ok { IfOk result (λ t. item table.old.scope table.old.found (Assert place (small_expr_tree e.now)) ≡ Some (elaborated (checked_tree t) table.new)) }
+    ensures not_small { IsErrOf result CheckError.NotSmall → item table.old.scope table.old.found (Assert place (small_expr_tree e.now)) ≡ None }
     ensures keeps { IfOk result (λ t. Keeps table.old.scope table.new.scope) }
 {
     let test = typed(alloc, table, e)?;
@@ -71,38 +72,38 @@ fn assert_that(
 /// What a statement becomes.
 #[cycle(statements)]
 #[tactic(auto, using(crate::proofs::Steps::steps, crate::proofs::Kept::kept))]
-fn item(alloc: Global, table: &mut Table, s: &Stmt) -> Result<Checked, CheckError>
-    ensures ok { IfOk result (λ t. item table.old.scope table.old.found (stmt_tree s.now) ≡ Some (elaborated (checked_tree t) table.new)) }
-    ensures not_small { IsErrOf result CheckError.NotSmall → item table.old.scope table.old.found (stmt_tree s.now) ≡ None }
+fn item(alloc: Global, table: &mut Table, s: &SmallStmt) -> Result<Checked, CheckError>
+    ensures ok { IfOk result (λ t. item table.old.scope table.old.found (small_stmt_tree s.now) ≡ Some (elaborated (checked_tree t) table.new)) }
+    ensures not_small { IsErrOf result CheckError.NotSmall → item table.old.scope table.old.found (small_stmt_tree s.now) ≡ None }
     ensures keeps { IfOk result (λ t. Keeps table.old.scope table.new.scope) }
 {
     match s {
-        Stmt::Block(all) => block(alloc, table, all),
-        Stmt::Declare(name, place) => {
+        SmallStmt::Block(all) => block(alloc, table, all),
+        SmallStmt::Declare(name, place) => {
             let object = table.declare(alloc, *name, *place)?;
             Ok(Checked::Declare(object))
         }
-        Stmt::Initialise(name, place, e) => initialise(alloc, table, *name, *place, e),
-        Stmt::Assign(name, place, e) => assign(alloc, table, *name, *place, e),
-        Stmt::If(e, s) => {
+        SmallStmt::Initialise(name, place, e) => initialise(alloc, table, *name, *place, e),
+        SmallStmt::Assign(name, place, e) => assign(alloc, table, *name, *place, e),
+        SmallStmt::If(e, s) => {
             let test = typed(alloc, table, e)?;
             let body = within(alloc, table, s)?;
             if_then(alloc, test, body)
         }
-        Stmt::IfElse(e, s, z) => {
+        SmallStmt::IfElse(e, s, z) => {
             let test = typed(alloc, table, e)?;
             let then = within(alloc, table, s)?;
             let other = within(alloc, table, z)?;
             if_else(alloc, test, then, other)
         }
-        Stmt::While(place, e, s) => {
+        SmallStmt::While(place, e, s) => {
             let test = typed(alloc, table, e)?;
             let number = table.add_loop(alloc, *place)?;
             let body = within(alloc, table, s)?;
             while_loop(alloc, number, test, body)
         }
-        Stmt::Assert(place, e) => assert_that(alloc, table, *place, e),
-        Stmt::Return(e) => {
+        SmallStmt::Assert(place, e) => assert_that(alloc, table, *place, e),
+        SmallStmt::Return(e) => {
             let value = typed(alloc, table, e)?;
             Ok(Checked::Return(value))
         }
@@ -112,9 +113,9 @@ fn item(alloc: Global, table: &mut Table, s: &Stmt) -> Result<Checked, CheckErro
 /// What a statement becomes whose names go out of scope at its end.
 #[cycle(statements)]
 #[tactic(auto, using(crate::proofs::Steps::steps, crate::proofs::Kept::kept))]
-fn within(alloc: Global, table: &mut Table, s: &Stmt) -> Result<Checked, CheckError>
-    ensures ok { IfOk result (λ t. within table.old.scope (item table.old.scope table.old.found (stmt_tree s.now)) ≡ Some (elaborated (checked_tree t) table.new)) }
-    ensures not_small { IsErrOf result CheckError.NotSmall → item table.old.scope table.old.found (stmt_tree s.now) ≡ None }
+fn within(alloc: Global, table: &mut Table, s: &SmallStmt) -> Result<Checked, CheckError>
+    ensures ok { IfOk result (λ t. within table.old.scope (item table.old.scope table.old.found (small_stmt_tree s.now)) ≡ Some (elaborated (checked_tree t) table.new)) }
+    ensures not_small { IsErrOf result CheckError.NotSmall → item table.old.scope table.old.found (small_stmt_tree s.now) ≡ None }
     ensures scope { IfOk result (λ t. table.new.scope ≡ table.old.scope) }
 {
     let count = table.in_scope();
@@ -126,9 +127,9 @@ fn within(alloc: Global, table: &mut Table, s: &Stmt) -> Result<Checked, CheckEr
 /// What a block becomes. Its names go out of scope at its end.
 #[cycle(statements)]
 #[tactic(auto, using(crate::proofs::Steps::steps, crate::proofs::Kept::kept))]
-fn block(alloc: Global, table: &mut Table, all: &[Stmt]) -> Result<Checked, CheckError>
-    ensures ok { IfOk result (λ t. option_map (made block) (within table.old.scope (items table.old.scope table.old.found (stmts_onto none all.now))) ≡ Some (elaborated (checked_tree t) table.new)) }
-    ensures not_small { IsErrOf result CheckError.NotSmall → items table.old.scope table.old.found (stmts_onto none all.now) ≡ None }
+fn block(alloc: Global, table: &mut Table, all: &[SmallStmt]) -> Result<Checked, CheckError>
+    ensures ok { IfOk result (λ t. option_map (made block) (within table.old.scope (items table.old.scope table.old.found (small_stmts_onto none all.now))) ≡ Some (elaborated (checked_tree t) table.new)) }
+    ensures not_small { IsErrOf result CheckError.NotSmall → items table.old.scope table.old.found (small_stmts_onto none all.now) ≡ None }
     ensures scope { IfOk result (λ t. table.new.scope ≡ table.old.scope) }
 {
     let outside = table.in_scope();
@@ -140,9 +141,13 @@ fn block(alloc: Global, table: &mut Table, all: &[Stmt]) -> Result<Checked, Chec
 /// What statements become, one after another.
 #[cycle(statements)]
 #[tactic(auto, using(crate::proofs::Steps::steps, crate::proofs::Kept::kept))]
-pub fn items(alloc: Global, table: &mut Table, all: &[Stmt]) -> Result<Vec<Checked>, CheckError>
-    ensures ok { IfOk result (λ out. items table.old.scope table.old.found (stmts_onto none all.now) ≡ Some (elaborated (map checked_tree out.items) table.new)) }
-    ensures not_small { IsErrOf result CheckError.NotSmall → items table.old.scope table.old.found (stmts_onto none all.now) ≡ None }
+pub fn items(
+    alloc: Global,
+    table: &mut Table,
+    all: &[SmallStmt],
+) -> Result<Vec<Checked>, CheckError>
+    ensures ok { IfOk result (λ out. items table.old.scope table.old.found (small_stmts_onto none all.now) ≡ Some (elaborated (map checked_tree out.items) table.new)) }
+    ensures not_small { IsErrOf result CheckError.NotSmall → items table.old.scope table.old.found (small_stmts_onto none all.now) ≡ None }
     ensures keeps { IfOk result (λ t. Keeps table.old.scope table.new.scope) }
 {
     let mut out = Vec::new(alloc);

@@ -1,9 +1,8 @@
 use crate::error::CheckError;
 use crate::unit::check;
 use l2_bits::List;
-use l2_syntax::{
-    BinaryOperator, Checked, Expr, FunctionInfo, Lvalue, Name, Place, Program, Stmt, Typed, Unit,
-};
+use l2_small::{SmallExpr, SmallStmt, SmallUnit};
+use l2_syntax::{BinaryOperator, Checked, FunctionInfo, Lvalue, Name, Place, Program, Typed};
 use std::alloc::{AllocError, Global};
 use std::test::Fail;
 
@@ -19,15 +18,15 @@ fn at(offset: u32) -> Place {
     }
 }
 
-fn value_of(name: u32) -> Expr {
-    Expr::Name(name, at(0))
+fn value_of(name: u32) -> SmallExpr {
+    SmallExpr::Name(name, at(0))
 }
 
-fn set(name: u32, e: Expr) -> Stmt {
-    Stmt::Assign(name, at(0), e)
+fn set(name: u32, e: SmallExpr) -> SmallStmt {
+    SmallStmt::Assign(name, at(0), e)
 }
 
-fn list(alloc: Global, first: Stmt, second: Stmt) -> Result<Vec<Stmt>, AllocError> {
+fn list(alloc: Global, first: SmallStmt, second: SmallStmt) -> Result<Vec<SmallStmt>, AllocError> {
     let mut all = Vec::new(alloc);
     all.push(first)?;
     all.push(second)?;
@@ -35,7 +34,7 @@ fn list(alloc: Global, first: Stmt, second: Stmt) -> Result<Vec<Stmt>, AllocErro
 }
 
 /// A text of the names `x` and `y`.
-fn unit(alloc: Global, items: Vec<Stmt>) -> Result<Unit, AllocError> {
+fn unit(alloc: Global, items: Vec<SmallStmt>) -> Result<SmallUnit, AllocError> {
     let mut names = Vec::new(alloc);
     names.push(Name {
         bytes: List::new(b"x".to_vec(alloc)?),
@@ -43,7 +42,7 @@ fn unit(alloc: Global, items: Vec<Stmt>) -> Result<Unit, AllocError> {
     names.push(Name {
         bytes: List::new(b"y".to_vec(alloc)?),
     })?;
-    Ok(Unit {
+    Ok(SmallUnit {
         main: at(4),
         items,
         names: List::new(names),
@@ -51,20 +50,24 @@ fn unit(alloc: Global, items: Vec<Stmt>) -> Result<Unit, AllocError> {
 }
 
 /// `{ int y; while (x) { y = x + 1; assert(y); } }`, from the place 20 on.
-fn turns(alloc: Global) -> Result<Stmt, AllocError> {
-    let sum = Expr::Binary(
+fn turns(alloc: Global) -> Result<SmallStmt, AllocError> {
+    let sum = SmallExpr::Binary(
         BinaryOperator::Add,
         Box::new(alloc, value_of(X))?,
-        Box::new(alloc, Expr::Number(1))?,
+        Box::new(alloc, SmallExpr::Number(1))?,
     );
-    let body = list(alloc, set(Y, sum), Stmt::Assert(at(23), value_of(Y)))?;
-    let turns = Stmt::While(at(22), value_of(X), Box::new(alloc, Stmt::Block(body))?);
-    Ok(Stmt::Block(list(alloc, Stmt::Declare(Y, at(21)), turns)?))
+    let body = list(alloc, set(Y, sum), SmallStmt::Assert(at(23), value_of(Y)))?;
+    let turns = SmallStmt::While(
+        at(22),
+        value_of(X),
+        Box::new(alloc, SmallStmt::Block(body))?,
+    );
+    Ok(SmallStmt::Block(list(alloc, SmallStmt::Declare(Y, at(21)), turns)?))
 }
 
 /// `int x = x;`, at the place 11.
-fn start() -> Stmt {
-    Stmt::Initialise(X, at(11), value_of(X))
+fn start() -> SmallStmt {
+    SmallStmt::Initialise(X, at(11), value_of(X))
 }
 
 /// Names and places of objects, places of loops and checks, and name and place of the function.
@@ -120,11 +123,11 @@ fn objects_loops_and_checks_are_numbered(rt: HostRuntime) -> Result<(), Fail> {
 #[test]
 fn names_out_of_scope_and_second_declarations_have_no_program(rt: HostRuntime) -> Result<(), Fail> {
     let alloc = rt.alloc();
-    let declare = Stmt::Declare(Y, at(0));
-    let branch = Stmt::IfElse(
-        Expr::Number(1),
+    let declare = SmallStmt::Declare(Y, at(0));
+    let branch = SmallStmt::IfElse(
+        SmallExpr::Number(1),
         Box::new(alloc, declare)?,
-        Box::new(alloc, set(Y, Expr::Number(2)))?,
+        Box::new(alloc, set(Y, SmallExpr::Number(2)))?,
     );
     let cases = [
         list(alloc, start(), start())?,

@@ -2,7 +2,7 @@
 ghost use Rattle.std.specs.Prelude.{◌≡◌, ◌∷◌, [], Some, None, map, IfOk, IfErr, IsErrOf};
 ghost use Rattle.l2_bits.specs.Types.{int_type};
 ghost use Rattle.l2_syntax.specs.declared.program.CellType.TheVariants.{Integer};
-ghost use Rattle.l2_syntax.specs.Raw.{none, unit_tree};
+ghost use Rattle.l2_small.specs.SmallTrees.{none, small_unit_tree};
 ghost use Rattle.l2_syntax.specs.Checked.{checked_tree};
 ghost use Rattle.l2_syntax.specs.Programs.{function_tree, program_tree};
 ghost use Rattle.l2_small_check.specs.Elaboration.{program_of, program_with, main_name, block, stays};
@@ -14,18 +14,19 @@ use crate::found::Found;
 use crate::statements::items;
 use crate::table::{Table, number};
 use l2_bits::{List, Ty};
-use l2_syntax::{CellType, Checked, FunctionInfo, Name, Place, Program, Unit};
+use l2_small::SmallUnit;
+use l2_syntax::{CellType, Checked, FunctionInfo, Name, Place, Program};
 use std::alloc::Global;
 
 /// The program of a unit of the small form: names stand for the objects that are in scope (C11 6.2.1), and objects, loops
 /// and checks are numbered from 1 in the order of the text. Its one function is `main`, whose name stands behind the
 /// unit's names. More loops, checks or names than a `u32` counts are want of memory.
 #[tactic(auto, using(crate::proofs::Steps::steps))]
-pub fn check(alloc: Global, unit: Unit) -> Result<Program, CheckError>
-    ensures ok { IfOk result (λ p. program_of (unit_tree unit) ≡ Some (program_tree p)) }
-    ensures not_small { IsErrOf result CheckError.NotSmall → program_of (unit_tree unit) ≡ None }
+pub fn check(alloc: Global, unit: SmallUnit) -> Result<Program, CheckError>
+    ensures ok { IfOk result (λ p. program_of (small_unit_tree unit) ≡ Some (program_tree p)) }
+    ensures not_small { IsErrOf result CheckError.NotSmall → program_of (small_unit_tree unit) ≡ None }
 {
-    let Unit {
+    let SmallUnit {
         main,
         items: all,
         names,

@@ -2,8 +2,8 @@
 use Rattle.std.specs.Prelude.{ℕ, List, [], ◌∷◌}
 use Rattle.l2_bits.specs.declared.types.Ty.{Ty}
 use Rattle.l2_syntax.specs.declared.program.CellValue.{CellValue}
-use Rattle.l2_syntax.specs.declared.raw.UnaryOperator.{UnaryOperator}
-use Rattle.l2_syntax.specs.declared.raw.BinaryOperator.{BinaryOperator}
+use Rattle.l2_syntax.specs.declared.operators.UnaryOperator.{UnaryOperator}
+use Rattle.l2_syntax.specs.declared.operators.BinaryOperator.{BinaryOperator}
 use Rattle.l2_syntax.specs.declared.checked.Lvalue.{Lvalue}
 use Rattle.l2_syntax.specs.declared.checked.Lvalue.TheVariants as lvalue
 use Rattle.l2_syntax.specs.declared.checked.Typed as typed

@@ -1,5 +1,5 @@
+use crate::operators::{BinaryOperator, UnaryOperator};
 use crate::program::CellValue;
-use crate::raw::{BinaryOperator, UnaryOperator};
 use l2_bits::Ty;
 
 /// What names cells of the store.

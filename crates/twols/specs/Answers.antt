@@ -2,9 +2,11 @@
 use Rattle.std.specs.Prelude.{◌≡◌, ◌≢◌, ℕ, ◌+◌, ◌<◌, ◌≤◌, ◌⊎◌, ℤ, List, [], ◌∷◌, ◌++◌, length, take, codes, Option, Some, None}
 use Rattle.l2_outside.specs.Outside.{Files, HandsOver, Lacks, grown, GrewByPrefix}
 use Rattle.l2_witness.specs.ValuesFile.{InRange, spelling}
-use Rattle.l2_syntax.specs.Raw.{UnitTree}
+use Rattle.l2_syntax.specs.declared.refusal.Refusal.{Refusal}
 use Rattle.l2_syntax.specs.Programs.{ProgramTree}
-use Rattle.l2_small.specs.Spells.{Spells}
+use Rattle.l2_tree.specs.Trees.{UnitTree}
+use Rattle.l2_parse_unit.specs.Reading.{SpellsText, IsTextRefused}
+use Rattle.l2_small.specs.SmallForm.{small_of, and_then}
 use Rattle.l2_small_check.specs.Elaboration.{program_of}
 use Rattle.l2_meaning.specs.declared.outcome.Outcome.{Outcome}
 use Rattle.l2_meaning.specs.declared.outcome.Outcome.TheVariants.{Ended, Stopped, Broken, OutOfChoices, OutOfTurns}
@@ -13,7 +15,7 @@ use Rattle.l2_meaning.specs.Execution.{exec, IsBroken}
 use Rattle.twols.specs.declared.status.Status.{Status}
 use Rattle.twols.specs.declared.status.Status.TheVariants.{Fine, Usage, ReadFault, WriteFault, NoMemory, Unknown, Refused, FileRefused, TooLong, Short, Unsafe}
 use Rattle.twols.specs.Words.{IsReplay}
-use Rattle.twols.specs.Printed.{replay_line}
+use Rattle.twols.specs.Printed.{replay_line, refusal_line, not_built_yet}
 
 abbrev pub text_limit : ℕ
 text_limit = 1048576
@@ -23,11 +25,15 @@ values_limit = 67108864
 
 -- ---- the inputs
 
--- the text is a program
+-- the program of a unit, where the unit is of the small form
+abbrev pub small_program : UnitTree → Option ProgramTree
+small_program u = and_then (small_of u) program_of
+
+-- the text spells a unit, which is a program
 pub record IsProgram (text : List ℕ) (p : ProgramTree) : Type 0 where
   pub unit : UnitTree
-  pub spelt : Spells text unit
-  pub program : program_of unit ≡ Some p
+  pub spelt : SpellsText text unit
+  pub program : small_program unit ≡ Some p
 
 -- these words are `replay FILE VALUES`, and this is what the reads of both files handed over
 pub record Hands (files : Option Files) (words : List (List ℕ)) (text values : List ℕ) : Type 0 where
@@ -85,6 +91,11 @@ pub record Replays (text values : List ℕ) (status : Status) (line : List ℕ) 
 abbrev pub IsNoProgram : List ℕ → Type 0
 IsNoProgram text = (p : ProgramTree) → ¬ IsProgram text p
 
+-- why a text is refused: reading stops, or the unit that it spells isn't of the small form
+pub data IsRefusalOf (text : List ℕ) : Refusal → Type 0 where
+  unread : (f : Refusal) → IsTextRefused text f → IsRefusalOf text f
+  not_built : (u : UnitTree) → SpellsText text u → small_program u ≡ None → IsRefusalOf text not_built_yet
+
 -- the bytes are no values file
 abbrev pub IsNoValues : List ℕ → Type 0
 IsNoValues values = (turns : ℕ) (choices : List ℤ) → InRange turns choices → values ≢ spelling turns choices
@@ -97,7 +108,7 @@ Judged text values ReadFault line = ⊥
 Judged text values WriteFault line = ⊥
 Judged text values NoMemory line = ⊥
 Judged text values Unknown line = ⊥
-Judged text values Refused line = IsNoProgram text × (line ≡ codes "REFUSED 1:1 not-built\n")
+Judged text values Refused line = IsNoProgram text × ((f : Refusal) × IsRefusalOf text f × (line ≡ refusal_line f))
 Judged text values FileRefused line = ((p : ProgramTree) × IsProgram text p) × IsNoValues values × (line ≡ codes "VALUES BadLine 0\n")
 Judged text values TooLong line = ⊥
 Judged text values Short line = Replays text values Short line

@@ -1,8 +1,11 @@
--- The line that is printed for an execution.
+-- The line that is printed for an execution, and for a text that is refused.
 use Rattle.std.specs.Prelude.{ℕ, ◌-◌, List, ◌++◌, codes, decimal, Option, Some, None, slice_get}
 use Rattle.l2_syntax.specs.declared.program.CheckInfo.{CheckInfo}
+use Rattle.l2_syntax.specs.declared.refusal.Refusal.{Refusal}
+use Rattle.l2_syntax.specs.declared.refusal.Rule.TheVariants.{NotBuilt}
 use Rattle.l2_syntax.specs.Kinds.{kind_text}
 use Rattle.l2_syntax.specs.Places.{place_text}
+use Rattle.l2_syntax.specs.Refusals.{rule_text}
 use Rattle.l2_meaning.specs.declared.outcome.Outcome.{Outcome}
 use Rattle.l2_meaning.specs.declared.outcome.Outcome.TheVariants.{Ended, Stopped, Broken, OutOfChoices, OutOfTurns}
 use Rattle.l2_meaning.specs.Execution.{Execution}
@@ -23,3 +26,10 @@ outcome_text checks OutOfTurns = codes "OUT OF TURNS"
 abbrev pub replay_line : List CheckInfo → Execution → List ℕ
 replay_line checks e =
     outcome_text checks e.outcome ++ codes " turns=" ++ decimal e.turns_used ++ codes " choices=" ++ decimal e.choices_used ++ codes "\n"
+
+-- a text that the program can't take yet is refused at its start
+abbrev pub not_built_yet : Refusal
+not_built_yet = record { place = record { offset = 0; line = 1; col = 1 }; rule = NotBuilt }
+
+abbrev pub refusal_line : Refusal → List ℕ
+refusal_line f = codes "REFUSED " ++ place_text f.place ++ codes " " ++ rule_text f.rule ++ codes "\n"

@@ -1,20 +1,35 @@
-ghost use Rattle.std.specs.Prelude.{◌≡◌, ◌≤◌, length, IfOk, IsErrOf, string_bytes};
+ghost use Rattle.std.specs.Prelude.{◌≡◌, ◌≤◌, length, IfOk, IfErr, IsErrOf, string_bytes};
 ghost use Rattle.l2_witness.specs.ValuesFile.{InRange, spelling};
 ghost use Rattle.l2_syntax.specs.Programs.{ProgramTree, program_tree};
 ghost use Rattle.l2_meaning.specs.Loops.{Real};
 ghost use Rattle.l2_meaning.specs.Execution.{exec};
 ghost use Rattle.twols.specs.Printed.{replay_line};
-ghost use Rattle.twols.specs.Answers.{Judged, IsProgram, IsNoProgram, Fits};
+ghost use Rattle.l2_tree.specs.Units.{unit_tree};
+ghost use Rattle.l2_parse_unit.specs.Reading.{OnRefusal};
+ghost use Rattle.twols.specs.Answers.{Judged, IsProgram, IsNoProgram, IsRefusalOf, small_program, Fits};
 
-use crate::line::replay_line;
+use crate::line::{refusal_line, replay_line};
 use crate::status::Status;
 use l2_meaning::Outcome;
 use l2_replay::replay;
-use l2_small::{SmallError, read, unique_law};
+use l2_lex::tokens;
+use l2_parse_unit::{parse, refused_law, unique_unit_law};
+use l2_small::{SmallError, small};
 use l2_small_check::{CheckError, check};
-use l2_syntax::Program;
+use l2_syntax::{Place, Program, Refusal, Rule, TextFault};
+use l2_tree::Unit;
 use l2_witness::{Values, ValuesError, read_values};
 use std::alloc::{AllocError, Global};
+
+/// A text that the program can't take yet is refused at its start.
+const NOT_BUILT: Refusal = Refusal {
+    place: Place {
+        offset: 0,
+        line: 1,
+        col: 1,
+    },
+    rule: Rule::NotBuilt,
+};
 
 /// The status that an outcome ends a replay with.
 fn status_of(outcome: Outcome) -> Status
@@ -29,21 +44,38 @@ fn status_of(outcome: Outcome) -> Status
     }
 }
 
-/// The program of a text.
-fn program_of(alloc: Global, text: &[u8]) -> Result<Program, SmallError>
+/// The program of a text, or why it has none.
+fn program_of(alloc: Global, text: &[u8]) -> Result<Program, TextFault>
     requires { length text.now ≤ 1048576 }
     ensures ok { IfOk result (λ p. IsProgram text.now (program_tree p)) }
-    ensures not_small { IsErrOf result SmallError.NotSmall → IsNoProgram text.now }
+    ensures refused { IfErr result (λ e. OnRefusal e (λ f. IsNoProgram text.now × IsRefusalOf text.now f)) }
 {
-    unique_law();
-    match read(alloc, text) {
-        Ok(unit) => match check(alloc, unit) {
+    refused_law();
+    unique_unit_law();
+    let tokens = tokens(alloc, text)?;
+    match parse(alloc, &tokens) {
+        Ok(unit) => match small_program(alloc, unit) {
+            Ok(program) => Ok(program),
+            Err(SmallError::NotSmall) => Err(TextFault::At(NOT_BUILT)),
+            Err(SmallError::NoMemory) => Err(TextFault::NoMemory),
+        },
+        Err(TextFault::At(refusal)) => Err(TextFault::At(refusal)),
+        Err(TextFault::NoMemory) => Err(TextFault::NoMemory),
+    }
+}
+
+/// The program of a unit of the small form.
+fn small_program(alloc: Global, unit: Unit) -> Result<Program, SmallError>
+    ensures ok { IfOk result (λ p. small_program (unit_tree unit) ≡ Some (program_tree p)) }
+    ensures not_small { IsErrOf result SmallError.NotSmall → small_program (unit_tree unit) ≡ None }
+{
+    match small(alloc, unit) {
+        Ok(small_unit) => match check(alloc, small_unit) {
             Ok(program) => Ok(program),
             Err(CheckError::NotSmall) => Err(SmallError::NotSmall),
             Err(CheckError::NoMemory) => Err(SmallError::NoMemory),
         },
-        Err(SmallError::NotSmall) => Err(SmallError::NotSmall),
-        Err(SmallError::NoMemory) => Err(SmallError::NoMemory),
+        Err(f) => Err(f),
     }
 }
 
@@ -79,10 +111,7 @@ pub fn judge(alloc: Global, text: &[u8], values: &[u8]) -> Result<(Status, Strin
             )),
             Err(ValuesError::NoMemory) => Err(AllocError),
         },
-        Err(SmallError::NotSmall) => Ok((
-            Status::Refused,
-            String::from_str(alloc, "REFUSED 1:1 not-built\n")?,
-        )),
-        Err(SmallError::NoMemory) => Err(AllocError),
+        Err(TextFault::At(refusal)) => Ok((Status::Refused, refusal_line(alloc, refusal)?)),
+        Err(TextFault::NoMemory) => Err(AllocError),
     }
 }

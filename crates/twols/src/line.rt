@@ -2,11 +2,12 @@ ghost use Rattle.std.specs.Prelude.{◌≡◌, ◌++◌, codes, decimal, IfOk, O
 ghost use Rattle.l2_syntax.specs.Kinds.{kind_text};
 ghost use Rattle.l2_syntax.specs.Places.{place_text};
 ghost use Rattle.l2_replay.specs.Reach.{execution_of};
-ghost use Rattle.twols.specs.Printed.{outcome_text, broken_text, replay_line};
+ghost use Rattle.l2_syntax.specs.Refusals.{rule_text};
+ghost use Rattle.twols.specs.Printed.{outcome_text, broken_text, replay_line, refusal_line};
 
 use l2_meaning::Outcome;
 use l2_replay::Replay;
-use l2_syntax::{CheckInfo, Place};
+use l2_syntax::{CheckInfo, Place, Refusal};
 use std::alloc::{AllocError, Global};
 
 /// A number behind a text.
@@ -68,6 +69,19 @@ pub fn replay_line(
     push_number(alloc, &mut text, replay.turns_used)?;
     text.push_str(" choices=")?;
     push_number(alloc, &mut text, replay.choices_used)?;
+    text.push_str("\n")?;
+    Ok(text)
+}
+
+/// The line that is printed for a text that is refused.
+pub fn refusal_line(alloc: Global, refusal: Refusal) -> Result<String, AllocError>
+    ensures { IfOk result (λ s. string_bytes s ≡ refusal_line refusal) }
+{
+    let place = place_text(alloc, refusal.place)?;
+    let mut text = String::from_str(alloc, "REFUSED ")?;
+    text.push_str(place.as_str())?;
+    text.push_str(" ")?;
+    text.push_str(refusal.rule.name())?;
     text.push_str("\n")?;
     Ok(text)
 }

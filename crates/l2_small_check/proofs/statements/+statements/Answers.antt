@@ -1,5 +1,5 @@
 use Rattle.std.proofs.Common.{arith, sym}
-use Rattle.l2_syntax.specs.Raw.{none}
+use Rattle.l2_small.specs.SmallTrees.{none}
 use Rattle.l2_small_check.proofs.Kept.{kept_all}
 use Rattle.l2_small_check.proofs.Rows.{items_onto, item_fails}
 use Rattle.l2_small_check.proofs.Weights.{weight_at}

@@ -1,0 +1,4 @@
+pub mod Never
+pub mod Begun
+pub mod Left
+pub mod Links

@@ -1,0 +1,303 @@
+// A construct behind a whole one that stands in it.
+ghost use Rattle.std.specs.Prelude.{◌≡◌, IfOk, IfErr, true, false};
+ghost use Rattle.l2_grammar.specs.Nesting.{stands as may_stand, on_child as behind_child, opens as opened, outcome as outcome_of, is_external as is_external_place};
+ghost use Rattle.l2_grammar.specs.Trees.{child as then_child};
+ghost use Rattle.l2_expression_forms.specs.Forms.{state_of as expression_state, tree_of as expression_tree};
+ghost use Rattle.l2_declaration_forms.specs.Forms.{whole_tree, state_of as declaration_state, tree_of as declaration_form_tree, may as may_declare};
+ghost use Rattle.l2_tree.specs.Units.{external_tree};
+ghost use Rattle.l2_tree.specs.Spelling.{run_external};
+ghost use Rattle.l2_forms.specs.Forms.{state_of, tree_of, may, Tied};
+
+use crate::behind::{
+    with_declaration, with_declarator, with_expr, with_external, with_initialiser, with_parameter,
+    with_sized, with_stmt,
+};
+use crate::error::FormError;
+use crate::form::Form;
+use l2_declaration_forms as declarations;
+use l2_declaration_forms::DeclarationForm;
+use l2_declarator_forms as declarators;
+use l2_expression_forms::ExprForm;
+use l2_grammar::{Outcome, Shape, Sort, State};
+use l2_networks::outcome;
+use l2_statement_forms as statements;
+use l2_tree::{External, global_of};
+use std::alloc::Global;
+
+/// Behind an expression, or the name of a type behind `sizeof`.
+#[tactic(auto, unfolding(l2_grammar::specs::Nesting::outcome))]
+fn behind_expression(
+    alloc: Global,
+    sort: Sort,
+    form: Form,
+    place: Sort,
+    inner: ExprForm,
+) -> Result<Form, FormError>
+    requires outer { Tied sort form }
+    requires may { may sort form ≡ true }
+    requires place { opened sort (state_of form) ≡ place }
+    requires standing { may_stand place (expression_state inner) ≡ true }
+    requires whole { outcome_of (expression_state inner) ≡ Outcome.Value }
+    requires stands { may_stand sort (behind_child sort (state_of form) Outcome.Value) ≡ true }
+    ensures state { IfOk result (λ f. state_of f ≡ behind_child sort (state_of form) Outcome.Value) }
+    ensures tree { IfOk result (λ f. tree_of sort f ≡ then_child (tree_of sort form) (expression_tree place inner)) }
+    ensures may { IfOk result (λ f. may sort f ≡ true) }
+{
+    match inner {
+        ExprForm::Whole(_, value) => with_expr(alloc, sort, form, place, value),
+        ExprForm::Sized(parenthesis, named) => with_sized(alloc, sort, form, parenthesis, named),
+        _ => unreachable!(),
+    }
+}
+
+/// Behind an expression, or an initialiser in braces.
+#[tactic(auto, using(crate::proofs::Links::value))]
+fn behind_value(
+    alloc: Global,
+    sort: Sort,
+    form: Form,
+    place: Sort,
+    inner: Form,
+) -> Result<Form, FormError>
+    requires outer { Tied sort form }
+    requires may { may sort form ≡ true }
+    requires inner { may place inner ≡ true }
+    requires place { opened sort (state_of form) ≡ place }
+    requires standing { may_stand place (state_of inner) ≡ true }
+    requires whole { outcome_of (state_of inner) ≡ Outcome.Value }
+    requires stands { may_stand sort (behind_child sort (state_of form) Outcome.Value) ≡ true }
+    ensures state { IfOk result (λ f. state_of f ≡ behind_child sort (state_of form) Outcome.Value) }
+    ensures tree { IfOk result (λ f. tree_of sort f ≡ then_child (tree_of sort form) (tree_of place inner)) }
+    ensures may { IfOk result (λ f. may sort f ≡ true) }
+{
+    match inner {
+        Form::Expression(f) => behind_expression(alloc, sort, form, place, f),
+        Form::Declaration(f) => {
+            let value = declarations::initialiser_of(place, f);
+            with_initialiser(alloc, sort, form, value)
+        }
+        Form::Statement(_) => unreachable!(),
+        Form::Declarator(_) => unreachable!(),
+        Form::Fresh => unreachable!(),
+        Form::Unit(_) => unreachable!(),
+        Form::Whole(_) => unreachable!(),
+    }
+}
+
+/// Behind a whole statement.
+#[tactic(auto, using(crate::proofs::Links::stated))]
+fn behind_statement(
+    alloc: Global,
+    sort: Sort,
+    form: Form,
+    place: Sort,
+    inner: Form,
+    shut: bool,
+) -> Result<Form, FormError>
+    requires outer { Tied sort form }
+    requires may { may sort form ≡ true }
+    requires inner { may place inner ≡ true }
+    requires place { opened sort (state_of form) ≡ place }
+    requires whole { outcome_of (state_of inner) ≡ (Outcome.Stated shut) }
+    requires stands { may_stand sort (behind_child sort (state_of form) (Outcome.Stated shut)) ≡ true }
+    ensures state { IfOk result (λ f. state_of f ≡ behind_child sort (state_of form) (Outcome.Stated shut)) }
+    ensures tree { IfOk result (λ f. tree_of sort f ≡ then_child (tree_of sort form) (tree_of place inner)) }
+    ensures may { IfOk result (λ f. may sort f ≡ true) }
+{
+    match inner {
+        Form::Statement(f) => {
+            let body = statements::stmt_of(place, f)?;
+            with_stmt(alloc, sort, form, body, shut)
+        }
+        Form::Expression(_) => unreachable!(),
+        Form::Declarator(_) => unreachable!(),
+        Form::Declaration(_) => unreachable!(),
+        Form::Fresh => unreachable!(),
+        Form::Unit(_) => unreachable!(),
+        Form::Whole(_) => unreachable!(),
+    }
+}
+
+fn is_external(sort: Sort) -> bool
+    ensures { result ≡ is_external_place sort }
+{
+    matches!(sort, Sort::External)
+}
+
+/// An external, where a declaration of nothing at all is a `;`.
+fn settled(external: External) -> External
+    ensures { (s : Sort) → run_external s (external_tree result) ≡ whole_tree s external }
+{
+    match external {
+        External::Declaration(declaration) => global_of(declaration),
+        other => other,
+    }
+}
+
+/// Behind an external.
+fn behind_external(sort: Sort, form: Form, place: Sort, inner: DeclarationForm) -> Result<Form, FormError>
+    requires outer { Tied sort form }
+    requires may { may sort form ≡ true }
+    requires place { opened sort (state_of form) ≡ place }
+    requires external { is_external_place place ≡ true }
+    requires whole { outcome_of (declaration_state inner) ≡ Outcome.Declaration }
+    requires stands { may_stand sort (behind_child sort (state_of form) Outcome.Declaration) ≡ true }
+    ensures state { IfOk result (λ f. state_of f ≡ behind_child sort (state_of form) Outcome.Declaration) }
+    ensures tree { IfOk result (λ f. tree_of sort f ≡ then_child (tree_of sort form) (declaration_form_tree place inner)) }
+    ensures may { IfOk result (λ f. may sort f ≡ true) }
+{
+    let external = settled(declarations::external_of(place, inner));
+    with_external(sort, form, external)
+}
+
+/// Behind a whole declaration that is no external.
+fn behind_inner_declaration(sort: Sort, form: Form, place: Sort, inner: DeclarationForm) -> Result<Form, FormError>
+    requires outer { Tied sort form }
+    requires may { may sort form ≡ true }
+    requires inner { may_declare place inner ≡ true }
+    requires place { opened sort (state_of form) ≡ place }
+    requires inside { is_external_place place ≡ false }
+    requires whole { outcome_of (declaration_state inner) ≡ Outcome.Declaration }
+    requires stands { may_stand sort (behind_child sort (state_of form) Outcome.Declaration) ≡ true }
+    ensures state { IfOk result (λ f. state_of f ≡ behind_child sort (state_of form) Outcome.Declaration) }
+    ensures tree { IfOk result (λ f. tree_of sort f ≡ then_child (tree_of sort form) (declaration_form_tree place inner)) }
+    ensures may { IfOk result (λ f. may sort f ≡ true) }
+{
+    let declaration = declarations::declaration_of(place, inner);
+    with_declaration(sort, form, place, declaration)
+}
+
+/// Behind a whole declaration, a function or a typedef.
+#[tactic(auto, using(crate::proofs::Links::declared))]
+fn behind_declaration(
+    sort: Sort,
+    form: Form,
+    place: Sort,
+    inner: Form,
+) -> Result<Form, FormError>
+    requires outer { Tied sort form }
+    requires may { may sort form ≡ true }
+    requires inner { may place inner ≡ true }
+    requires place { opened sort (state_of form) ≡ place }
+    requires whole { outcome_of (state_of inner) ≡ Outcome.Declaration }
+    requires stands { may_stand sort (behind_child sort (state_of form) Outcome.Declaration) ≡ true }
+    ensures state { IfOk result (λ f. state_of f ≡ behind_child sort (state_of form) Outcome.Declaration) }
+    ensures tree { IfOk result (λ f. tree_of sort f ≡ then_child (tree_of sort form) (tree_of place inner)) }
+    ensures may { IfOk result (λ f. may sort f ≡ true) }
+{
+    match inner {
+        Form::Declaration(f) => if is_external(place) {
+            behind_external(sort, form, place, f)
+        } else {
+            behind_inner_declaration(sort, form, place, f)
+        },
+        Form::Expression(_) => unreachable!(),
+        Form::Statement(_) => unreachable!(),
+        Form::Declarator(_) => unreachable!(),
+        Form::Fresh => unreachable!(),
+        Form::Unit(_) => unreachable!(),
+        Form::Whole(_) => unreachable!(),
+    }
+}
+
+/// Behind a parameter, or the name of a type.
+#[tactic(auto, using(crate::proofs::Links::typed))]
+fn behind_parameter(
+    alloc: Global,
+    sort: Sort,
+    form: Form,
+    place: Sort,
+    inner: Form,
+    named: bool,
+    void: bool,
+) -> Result<Form, FormError>
+    requires outer { Tied sort form }
+    requires may { may sort form ≡ true }
+    requires inner { may place inner ≡ true }
+    requires place { opened sort (state_of form) ≡ place }
+    requires whole { outcome_of (state_of inner) ≡ (Outcome.Specified named void) }
+    requires stands { may_stand sort (behind_child sort (state_of form) (Outcome.Specified named void)) ≡ true }
+    ensures state { IfOk result (λ f. state_of f ≡ behind_child sort (state_of form) (Outcome.Specified named void)) }
+    ensures tree { IfOk result (λ f. tree_of sort f ≡ then_child (tree_of sort form) (tree_of place inner)) }
+    ensures may { IfOk result (λ f. may sort f ≡ true) }
+{
+    match inner {
+        Form::Declaration(f) => {
+            let parameter = declarations::parameter_of(place, f, named, void)?;
+            with_parameter(alloc, sort, form, parameter, named, void)
+        }
+        Form::Expression(_) => unreachable!(),
+        Form::Statement(_) => unreachable!(),
+        Form::Declarator(_) => unreachable!(),
+        Form::Fresh => unreachable!(),
+        Form::Unit(_) => unreachable!(),
+        Form::Whole(_) => unreachable!(),
+    }
+}
+
+/// Behind a declarator.
+#[tactic(auto, using(crate::proofs::Links::shaped))]
+fn behind_declarator(
+    alloc: Global,
+    sort: Sort,
+    form: Form,
+    place: Sort,
+    inner: Form,
+    shape: Shape,
+) -> Result<Form, FormError>
+    requires outer { Tied sort form }
+    requires may { may sort form ≡ true }
+    requires inner { may place inner ≡ true }
+    requires place { opened sort (state_of form) ≡ place }
+    requires whole { outcome_of (state_of inner) ≡ (Outcome.Declares shape) }
+    requires stands { may_stand sort (behind_child sort (state_of form) (Outcome.Declares shape)) ≡ true }
+    ensures state { IfOk result (λ f. state_of f ≡ behind_child sort (state_of form) (Outcome.Declares shape)) }
+    ensures tree { IfOk result (λ f. tree_of sort f ≡ then_child (tree_of sort form) (tree_of place inner)) }
+    ensures may { IfOk result (λ f. may sort f ≡ true) }
+{
+    match inner {
+        Form::Declarator(f) => {
+            let declarator = declarators::declarator_of(alloc, place, f, shape)?;
+            with_declarator(sort, form, declarator, shape)
+        }
+        Form::Expression(_) => unreachable!(),
+        Form::Statement(_) => unreachable!(),
+        Form::Declaration(_) => unreachable!(),
+        Form::Fresh => unreachable!(),
+        Form::Unit(_) => unreachable!(),
+        Form::Whole(_) => unreachable!(),
+    }
+}
+
+/// A form behind a whole construct that stands in it; `state` is that of the inner one.
+#[tactic(auto, using(crate::proofs::Links::unfinished))]
+pub fn with_child(
+    alloc: Global,
+    sort: Sort,
+    form: Form,
+    place: Sort,
+    inner: Form,
+    state: State,
+) -> Result<Form, FormError>
+    requires outer { Tied sort form }
+    requires may { may sort form ≡ true }
+    requires inner { may place inner ≡ true }
+    requires place { opened sort (state_of form) ≡ place }
+    requires state { state_of inner ≡ state }
+    requires standing { may_stand place (state_of inner) ≡ true }
+    requires stands { may_stand sort (behind_child sort (state_of form) (outcome_of (state_of inner))) ≡ true }
+    ensures state { IfOk result (λ f. state_of f ≡ behind_child sort (state_of form) (outcome_of (state_of inner))) }
+    ensures tree { IfOk result (λ f. tree_of sort f ≡ then_child (tree_of sort form) (tree_of place inner)) }
+    ensures may { IfOk result (λ f. may sort f ≡ true) }
+{
+    match outcome(state) {
+        Outcome::Value => behind_value(alloc, sort, form, place, inner),
+        Outcome::Stated(shut) => behind_statement(alloc, sort, form, place, inner, shut),
+        Outcome::Declaration => behind_declaration(sort, form, place, inner),
+        Outcome::Specified(named, void) => behind_parameter(
+            alloc, sort, form, place, inner, named, void,
+        ),
+        Outcome::Declares(shape) => behind_declarator(alloc, sort, form, place, inner, shape),
+        Outcome::Unfinished => unreachable!(),
+    }
+}

@@ -1,0 +1,4 @@
+mod Refused
+mod Places
+mod Unique
+mod Wholes

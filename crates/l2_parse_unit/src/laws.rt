@@ -1,0 +1,18 @@
+// What holds of refusals: a law without code.
+ghost use Rattle.l2_parse_unit.specs.Reading.{RefusedLaw, UniqueUnitLaw};
+
+use l2_tree::unique_tree_law;
+
+#[tactic(auto, using(crate::proofs::Refused::refused))]
+/// What is refused spells no unit.
+pub fn refused_law()
+    ensures { RefusedLaw }
+{}
+
+/// Tokens spell at most one unit.
+#[tactic(auto, using(crate::proofs::Unique::unique))]
+pub fn unique_unit_law()
+    ensures { UniqueUnitLaw }
+{
+    unique_tree_law();
+}
