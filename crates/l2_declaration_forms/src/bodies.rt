@@ -12,11 +12,10 @@ use crate::form::{Body, DeclarationForm, Front, SpecifiersForm, TypeSoFar};
 use crate::front::{storage, typed, with_specifier};
 use crate::parts::{enum_of, struct_of};
 use crate::specifiers::{behind_type, with_first};
-use l2_declarator_forms::FormError;
 use l2_grammar::{Named, Sort, State};
 use l2_networks::{is, only};
 use l2_syntax::{Mark, Place, Token, TokenKind};
-use l2_tree::{Declaration, Enumerator, Specifier, Tag};
+use l2_tree::{Declaration, Enumerator, FormError, Specifier, Tag};
 use std::alloc::Global;
 
 /// Behind `struct`.

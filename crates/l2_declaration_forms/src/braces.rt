@@ -11,11 +11,10 @@ ghost use Rattle.l2_declaration_forms.specs.Forms.{some_initialisers, braces_sta
 
 use crate::form::BracesForm;
 use crate::parts::braced_items;
-use l2_declarator_forms::FormError;
 use l2_grammar::{Sort, State};
 use l2_networks::{is, only};
 use l2_syntax::{Mark, Place, Token};
-use l2_tree::Initialiser;
+use l2_tree::{FormError, Initialiser};
 use std::alloc::Global;
 
 /// `}` behind initialisers.

@@ -11,10 +11,11 @@ use crate::braces::in_braces;
 use crate::form::{BracesForm, DeclarationForm, DeclaratorsForm, Front, SpecifiersForm, TypeSoFar};
 use crate::front::with_specifier;
 use crate::parts::initialised_by;
-use l2_declarator_forms::FormError;
 use l2_grammar::{Named, Outcome, Shape, Sort, State};
 use l2_syntax::Place;
-use l2_tree::{Declaration, Declarator, Declared, Enumerator, Expr, Initialiser, Specifier, Stmt};
+use l2_tree::{
+    Declaration, Declarator, Declared, Enumerator, Expr, FormError, Initialiser, Specifier, Stmt,
+};
 use std::alloc::Global;
 
 /// The form with the value of an enumerator in it.

@@ -11,11 +11,10 @@ ghost use Rattle.l2_declaration_forms.specs.Forms.{stored, some_declarators, dec
 use crate::form::{DeclarationForm, DeclaratorsForm, Front, Storing};
 use crate::front::{declaration_end, storage};
 use crate::parts::plain_declared;
-use l2_declarator_forms::FormError;
 use l2_grammar::{Shape, Sort, State};
 use l2_networks::{is, only};
 use l2_syntax::{Mark, Place, Token};
-use l2_tree::{Declarator, Declared};
+use l2_tree::{Declarator, Declared, FormError};
 use std::alloc::Global;
 
 /// `;` behind a declarator.

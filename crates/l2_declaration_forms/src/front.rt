@@ -8,10 +8,9 @@ ghost use Rattle.l2_tree.specs.Units.{specifier_tree, declarators_onto as declar
 ghost use Rattle.l2_declaration_forms.specs.Forms.{storage_of, stored, named_of, state_of, front_tree, tree_of, suits, may};
 
 use crate::form::{DeclarationForm, Front, SpecifiersForm, Storing, TypeSoFar};
-use l2_declarator_forms::FormError;
 use l2_grammar::{Sort, State, Storage};
 use l2_syntax::{Mark, Place};
-use l2_tree::{Declaration, Declared, External, Specifier, SpecifierWord};
+use l2_tree::{Declaration, Declared, External, FormError, Specifier, SpecifierWord};
 
 /// The word of storage, without its place.
 pub fn storage(storing: Storing) -> Storage

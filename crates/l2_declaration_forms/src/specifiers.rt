@@ -10,10 +10,9 @@ use crate::form::{DeclarationForm, Front, SpecifiersForm, TypeSoFar};
 use crate::front::{
     declaration_end, stored_before_type, stored_behind_type, typed, typed_word, untyped_word,
 };
-use l2_declarator_forms::FormError;
 use l2_grammar::{Core, Length, Sort};
 use l2_syntax::{Mark, Token, TokenKind};
-use l2_tree::{Specifier, SpecifierWord};
+use l2_tree::{FormError, Specifier, SpecifierWord};
 use std::alloc::Global;
 
 fn longer(length: Length) -> Length

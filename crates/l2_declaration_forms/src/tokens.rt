@@ -12,11 +12,10 @@ use crate::braces::on_braces;
 use crate::declarators::on_declarators;
 use crate::form::{BracesForm, DeclarationForm, Front, SpecifiersForm, Storing};
 use crate::specifiers::with_first;
-use l2_declarator_forms::FormError;
 use l2_grammar::{Sort, State, Storage};
 use l2_networks::{is, only};
 use l2_syntax::{Mark, Token};
-use l2_tree::External;
+use l2_tree::{External, FormError};
 use std::alloc::Global;
 
 /// A token in braces.

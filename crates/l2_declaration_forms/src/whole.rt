@@ -11,9 +11,8 @@ ghost use Rattle.l2_declaration_forms.specs.Forms.{state_of, front_tree, tree_of
 use crate::form::{BracesForm, DeclarationForm, DeclaratorsForm, Front, SpecifiersForm, Storing};
 use crate::front::with_specifier;
 use crate::parts::{bare_parameter, parameter_with};
-use l2_declarator_forms::FormError;
 use l2_grammar::Sort;
-use l2_tree::{Declaration, External, Initialiser, Parameter, Specifier};
+use l2_tree::{Declaration, External, FormError, Initialiser, Parameter, Specifier};
 
 /// The external, where it is whole.
 #[tactic(auto, unfolding(l2_grammar::specs::Nesting::outcome))]

@@ -6,12 +6,11 @@ ghost use Rattle.l2_tree.specs.Spelling.{within, run_expr, run_declarator, run_p
 ghost use Rattle.l2_tree.specs.Units.{expr_tree, declarator_tree, parameter_tree};
 ghost use Rattle.l2_declarator_forms.specs.Forms.{state_of, tree_of};
 
-use crate::error::FormError;
 use crate::form::DeclaratorForm;
 use crate::tokens::with_star;
 use l2_grammar::{Shape, Sort, State};
 use l2_syntax::Place;
-use l2_tree::{Core, Declarator, Expr, Parameter, Pointer};
+use l2_tree::{Core, Declarator, Expr, FormError, Parameter, Pointer};
 use std::alloc::Global;
 
 /// The form with a length in it.

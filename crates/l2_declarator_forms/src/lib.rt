@@ -2,12 +2,10 @@
 #![tactic(auto)]
 
 mod children;
-mod error;
 mod form;
 mod parts;
 mod tokens;
 
 pub use children::{declarator_of, with_declarator, with_expr, with_parameter};
-pub use error::FormError;
 pub use form::DeclaratorForm;
 pub use tokens::{begin, with_token};

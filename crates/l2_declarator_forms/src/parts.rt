@@ -3,9 +3,8 @@ ghost use Rattle.std.specs.Prelude.{◌≡◌, IfOk, IfErr};
 ghost use Rattle.l2_tree.specs.Trees.{Group as group, Parameters as parameter_list, no_parameters};
 ghost use Rattle.l2_tree.specs.Units.{core_tree, suffix_tree, declarator_tree, parameters_onto};
 
-use crate::error::FormError;
 use l2_syntax::Place;
-use l2_tree::{Core, Declarator, Parameter, Suffix};
+use l2_tree::{Core, Declarator, FormError, Parameter, Suffix};
 use std::alloc::Global;
 
 /// `( declarator )`.

@@ -7,13 +7,12 @@ ghost use Rattle.l2_tree.specs.Spelling.{plain, mark_at, closed, pointers_onto, 
 ghost use Rattle.l2_tree.specs.Units.{suffix_tree, declarator_tree};
 ghost use Rattle.l2_declarator_forms.specs.Forms.{state_of, tree_of, some_parameters, opened, is_of_declarator};
 
-use crate::error::FormError;
 use crate::form::DeclaratorForm;
 use crate::parts::{group_core, parameters_suffix};
 use l2_grammar::{Shape, Sort, State};
 use l2_networks::{applied, indexed, is, only};
 use l2_syntax::{Mark, Place, Token, TokenKind};
-use l2_tree::{Core, Declarator, Expr, Parameter, Pointer, Suffix};
+use l2_tree::{Core, Declarator, Expr, FormError, Parameter, Pointer, Suffix};
 use std::alloc::Global;
 
 /// The pointers with one more.

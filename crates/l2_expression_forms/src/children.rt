@@ -7,11 +7,12 @@ ghost use Rattle.l2_tree.specs.Units.{expr_tree, parameter_tree};
 ghost use Rattle.l2_expression_forms.specs.Forms.{level_of, state_of, tree_of};
 
 use crate::closing::and_argument;
-use crate::error::FormError;
 use crate::form::ExprForm;
 use l2_grammar::{Outcome, Sort, State};
 use l2_syntax::Place;
-use l2_tree::{AssignmentOperator, BinaryOperator, Expr, Parameter, UnaryOperator, UpdateOperator};
+use l2_tree::{
+    AssignmentOperator, BinaryOperator, Expr, FormError, Parameter, UnaryOperator, UpdateOperator,
+};
 use std::alloc::Global;
 
 /// How tightly the operator binds.

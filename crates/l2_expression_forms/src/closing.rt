@@ -8,12 +8,11 @@ ghost use Rattle.l2_tree.specs.Trees.{Call, no_exprs, and_expr};
 ghost use Rattle.l2_tree.specs.Units.{expr_tree, exprs_onto};
 ghost use Rattle.l2_expression_forms.specs.Forms.{state_of, tree_of};
 
-use crate::error::FormError;
 use crate::form::ExprForm;
 use l2_grammar::{Right, Sort, State};
 use l2_networks::{is, only};
 use l2_syntax::{Mark, Place, Token, TokenKind};
-use l2_tree::{Expr, MemberOperator, Parameter};
+use l2_tree::{Expr, FormError, MemberOperator, Parameter};
 use std::alloc::Global;
 
 /// `( e` and `)`.

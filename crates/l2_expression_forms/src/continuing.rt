@@ -7,11 +7,12 @@ ghost use Rattle.l2_tree.specs.Spelling.{run_expr, plain};
 ghost use Rattle.l2_tree.specs.Units.{expr_tree};
 ghost use Rattle.l2_expression_forms.specs.Forms.{state_of, tree_of, mark_of, leaves};
 
-use crate::error::FormError;
 use crate::form::{Continuation, ExprForm};
 use l2_grammar::{Sort, State};
 use l2_syntax::{Mark, Place, TokenKind};
-use l2_tree::{AssignmentOperator, BinaryOperator, Expr, MemberOperator, UpdateOperator};
+use l2_tree::{
+    AssignmentOperator, BinaryOperator, Expr, FormError, MemberOperator, UpdateOperator,
+};
 use std::alloc::Global;
 
 /// What the mark is behind an expression, if it goes on as one.

@@ -5,12 +5,10 @@ mod beginning;
 mod children;
 mod closing;
 mod continuing;
-mod error;
 mod form;
 mod tokens;
 
 pub use beginning::{begin, is_expression};
 pub use children::{with_expr, with_sized, with_type};
-pub use error::FormError;
 pub use form::ExprForm;
 pub use tokens::{expr_of, leaves, with_token};

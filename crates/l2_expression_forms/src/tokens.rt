@@ -12,11 +12,10 @@ use crate::closing::{
     name_member,
 };
 use crate::continuing::after_mark;
-use crate::error::FormError;
 use crate::form::ExprForm;
 use l2_grammar::{Sort, State};
 use l2_syntax::{Place, Token, TokenKind};
-use l2_tree::Expr;
+use l2_tree::{Expr, FormError};
 use std::alloc::Global;
 
 /// Whether the state is that of a statement behind the `;` of its expression, or behind the `:` of its label.

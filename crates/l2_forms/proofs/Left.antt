@@ -120,5 +120,7 @@ unfolding on_token stands
 end_takes_nothing s k h = cc
 
 pub ruleset left = (whole_leaves, word_leaves, whole_ends, word_ends, word_labels)
+
 pub ruleset stays = (stays_expression)
+
 pub ruleset units = (fresh_is_inside, unit_ends, unit_token, end_takes_nothing)

@@ -619,12 +619,21 @@ declaration_takes_member s (dcln.Function y0 y1 y2 y3) n h = refl
 declaration_takes_member s (dcln.Whole y0) n h = absurd (cc)
 
 pub ruleset braced = (expression_takes_no_braces, statement_takes_no_braces, declarator_takes_no_braces, end_takes_no_braces, fresh_takes_no_braces)
+
 pub ruleset declaration_in_declaration = (declaration_takes_member)
+
 pub ruleset declared = (end_never_declaration, expression_never_declaration, declarator_never_declaration, fresh_never_declaration, unit_has_externals)
+
 pub ruleset externals = (fresh_has_none, expression_takes_no_external, statement_takes_no_external, declarator_takes_no_external, declaration_takes_no_external, end_takes_no_external)
+
 pub ruleset shaped = (fresh_never_declares, end_never_declares, expression_never_declares, statement_never_declares)
+
 pub ruleset sized = (statement_takes_no_type, declarator_takes_no_type, declaration_takes_no_type, fresh_never_value, end_never_value)
+
 pub ruleset stated = (fresh_never_stated, end_never_stated, expression_never_stated, declarator_never_stated, declaration_takes_item)
+
 pub ruleset typed = (fresh_never_type, end_never_type, statement_never_type, declaration_never_type)
+
 pub ruleset units = (fresh_never_value, end_never_value)
+
 pub ruleset value_in_declaration = (declaration_takes_value)

@@ -6,7 +6,6 @@ ghost use Rattle.l2_tree.specs.Units.{expr_tree, stmt_tree, declaration_tree, ex
 ghost use Rattle.l2_tree.specs.Spelling.{within, bracketed, run_expr, run_stmt, run_parameter, run_declarator, run_initialiser, run_external, declaration_onto};
 ghost use Rattle.l2_forms.specs.Forms.{state_of, tree_of, may};
 
-use crate::error::FormError;
 use crate::form::Form;
 use l2_declaration_forms as declarations;
 use l2_declaration_forms::DeclarationForm;
@@ -15,7 +14,9 @@ use l2_expression_forms as expressions;
 use l2_grammar::{Outcome, Shape, Sort, State};
 use l2_statement_forms as statements;
 use l2_syntax::Place;
-use l2_tree::{Declaration, Declarator, Expr, External, Initialiser, Parameter, Stmt, item_of};
+use l2_tree::{
+    Declaration, Declarator, Expr, External, FormError, Initialiser, Parameter, Stmt, item_of,
+};
 use std::alloc::Global;
 
 /// A declaration behind an expression: the value of an enumerator, or an initialiser.
@@ -117,7 +118,9 @@ pub fn with_stmt(
     ensures may { IfOk result (λ f. may sort f ≡ true) }
 {
     match form {
-        Form::Statement(f) => Ok(Form::Statement(statements::with_stmt(alloc, sort, f, inner, shut)?)),
+        Form::Statement(f) => Ok(Form::Statement(statements::with_stmt(
+            alloc, sort, f, inner, shut,
+        )?)),
         Form::Declaration(f) => Ok(Form::Declaration(declarations::with_item(
             sort,
             f,
@@ -154,7 +157,11 @@ fn declaration_in_declaration(
 }
 
 /// A function's body behind a declaration.
-fn item_in_function(sort: Sort, form: DeclarationForm, inner: Declaration) -> Result<Form, FormError>
+fn item_in_function(
+    sort: Sort,
+    form: DeclarationForm,
+    inner: Declaration,
+) -> Result<Form, FormError>
     requires may { may sort (Form.Declaration form) ≡ true }
     requires item { is_item_place (opened sort (state_of (Form.Declaration form))) ≡ true }
     requires stands { may_stand sort (behind_child sort (state_of (Form.Declaration form)) Outcome.Declaration) ≡ true }
@@ -210,7 +217,9 @@ pub fn with_parameter(
     ensures may { IfOk result (λ f. may sort f ≡ true) }
 {
     match form {
-        Form::Expression(f) => Ok(Form::Expression(expressions::with_type(sort, f, inner, named, void))),
+        Form::Expression(f) => Ok(Form::Expression(expressions::with_type(
+            sort, f, inner, named, void,
+        ))),
         Form::Declarator(f) => Ok(Form::Declarator(declarators::with_parameter(
             alloc, sort, f, named, void, inner,
         )?)),
@@ -224,7 +233,12 @@ pub fn with_parameter(
 
 /// Behind a declarator of this shape.
 #[tactic(auto, using(crate::proofs::Never::shaped))]
-pub fn with_declarator(sort: Sort, form: Form, inner: Declarator, shape: Shape) -> Result<Form, FormError>
+pub fn with_declarator(
+    sort: Sort,
+    form: Form,
+    inner: Declarator,
+    shape: Shape,
+) -> Result<Form, FormError>
     requires may { may sort form ≡ true }
     requires stands { may_stand sort (behind_child sort (state_of form) (Outcome.Declares shape)) ≡ true }
     ensures state { IfOk result (λ f. state_of f ≡ behind_child sort (state_of form) (Outcome.Declares shape)) }
@@ -232,7 +246,9 @@ pub fn with_declarator(sort: Sort, form: Form, inner: Declarator, shape: Shape) 
     ensures may { IfOk result (λ f. may sort f ≡ true) }
 {
     match form {
-        Form::Declarator(f) => Ok(Form::Declarator(declarators::with_declarator(sort, f, shape, inner))),
+        Form::Declarator(f) => Ok(Form::Declarator(declarators::with_declarator(
+            sort, f, shape, inner,
+        ))),
         Form::Declaration(f) => Ok(Form::Declaration(declarations::with_declarator(
             sort, f, shape, inner,
         )?)),

@@ -12,7 +12,6 @@ use crate::behind::{
     with_declaration, with_declarator, with_expr, with_external, with_initialiser, with_parameter,
     with_sized, with_stmt,
 };
-use crate::error::FormError;
 use crate::form::Form;
 use l2_declaration_forms as declarations;
 use l2_declaration_forms::DeclarationForm;
@@ -21,7 +20,7 @@ use l2_expression_forms::ExprForm;
 use l2_grammar::{Outcome, Shape, Sort, State};
 use l2_networks::outcome;
 use l2_statement_forms as statements;
-use l2_tree::{External, global_of};
+use l2_tree::{External, FormError, global_of};
 use std::alloc::Global;
 
 /// Behind an expression, or the name of a type behind `sizeof`.
@@ -135,7 +134,12 @@ fn settled(external: External) -> External
 }
 
 /// Behind an external.
-fn behind_external(sort: Sort, form: Form, place: Sort, inner: DeclarationForm) -> Result<Form, FormError>
+fn behind_external(
+    sort: Sort,
+    form: Form,
+    place: Sort,
+    inner: DeclarationForm,
+) -> Result<Form, FormError>
     requires outer { Tied sort form }
     requires may { may sort form ≡ true }
     requires place { opened sort (state_of form) ≡ place }
@@ -151,7 +155,12 @@ fn behind_external(sort: Sort, form: Form, place: Sort, inner: DeclarationForm) 
 }
 
 /// Behind a whole declaration that is no external.
-fn behind_inner_declaration(sort: Sort, form: Form, place: Sort, inner: DeclarationForm) -> Result<Form, FormError>
+fn behind_inner_declaration(
+    sort: Sort,
+    form: Form,
+    place: Sort,
+    inner: DeclarationForm,
+) -> Result<Form, FormError>
     requires outer { Tied sort form }
     requires may { may sort form ≡ true }
     requires inner { may_declare place inner ≡ true }
@@ -169,12 +178,7 @@ fn behind_inner_declaration(sort: Sort, form: Form, place: Sort, inner: Declarat
 
 /// Behind a whole declaration, a function or a typedef.
 #[tactic(auto, using(crate::proofs::Links::declared))]
-fn behind_declaration(
-    sort: Sort,
-    form: Form,
-    place: Sort,
-    inner: Form,
-) -> Result<Form, FormError>
+fn behind_declaration(sort: Sort, form: Form, place: Sort, inner: Form) -> Result<Form, FormError>
     requires outer { Tied sort form }
     requires may { may sort form ≡ true }
     requires inner { may place inner ≡ true }

@@ -11,7 +11,6 @@ ghost use Rattle.l2_tree.specs.Spelling.{plain, run_unit, run_expr};
 ghost use Rattle.l2_forms.specs.Forms.{state_of, tree, Ready, Keeps};
 
 use crate::children::with_child;
-use crate::error::FormError;
 use crate::form::{Construct, Form};
 use crate::tokens::with_token;
 use l2_expression_forms::ExprForm;
@@ -19,7 +18,7 @@ use l2_grammar::{Level, Sort, State};
 use l2_networks::{on_child, on_token, outcome};
 use l2_reader::{Open, Syntax};
 use l2_syntax::Token;
-use l2_tree::{Expr, External};
+use l2_tree::{Expr, External, FormError};
 use std::alloc::Global;
 
 /// A construct of which nothing was read.
@@ -48,11 +47,7 @@ fn behind(alloc: Global, construct: Construct, token: Token) -> Result<Construct
     ensures ready { IfOk result (λ c. Ready c) }
     ensures sort { IfOk result (λ c. c.sort ≡ construct.sort) }
 {
-    let Construct {
-        sort,
-        state,
-        form,
-    } = construct;
+    let Construct { sort, state, form } = construct;
     let next = on_token(sort, state, token.kind);
     let form = with_token(alloc, sort, form, state, token)?;
     Ok(Construct {
@@ -73,11 +68,7 @@ fn around(alloc: Global, outer: Construct, inner: Construct) -> Result<Construct
     ensures ready { IfOk result (λ c. Ready c) }
     ensures sort { IfOk result (λ c. c.sort ≡ outer.sort) }
 {
-    let Construct {
-        sort,
-        state,
-        form,
-    } = outer;
+    let Construct { sort, state, form } = outer;
     let next = on_child(sort, state, outcome(inner.state));
     let form = with_child(alloc, sort, form, inner.sort, inner.form, inner.state)?;
     Ok(Construct {

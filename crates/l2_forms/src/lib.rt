@@ -4,10 +4,8 @@
 
 mod behind;
 mod children;
-mod error;
 mod fold;
 mod form;
 mod tokens;
 
-pub use error::FormError;
 pub use fold::{expression, externals};

@@ -11,7 +11,6 @@ ghost use Rattle.l2_statement_forms.specs.Forms.{state_of as statement_state, tr
 ghost use Rattle.l2_declarator_forms.specs.Forms.{is_of_declarator as is_declarator_state};
 ghost use Rattle.l2_forms.specs.Forms.{state_of, tree_of, may};
 
-use crate::error::FormError;
 use crate::form::Form;
 use l2_declaration_forms as declarations;
 use l2_declarator_forms as declarators;
@@ -22,7 +21,7 @@ use l2_networks::{is, on_token};
 use l2_statement_forms as statements;
 use l2_statement_forms::{StatementForm, begins_statement};
 use l2_syntax::{Mark, Token};
-use l2_tree::Expr;
+use l2_tree::{Expr, FormError};
 use std::alloc::Global;
 
 fn is_item(sort: Sort) -> bool
@@ -139,7 +138,11 @@ pub fn with_token(
         Form::Whole(_) => unreachable!(),
         Form::Expression(f) => behind_expression(alloc, sort, f, state, token),
         Form::Statement(f) => Ok(Form::Statement(statements::with_token(sort, f, token)?)),
-        Form::Declarator(f) => Ok(Form::Declarator(declarators::with_token(alloc, sort, f, token)?)),
-        Form::Declaration(f) => Ok(Form::Declaration(declarations::with_token(alloc, sort, f, token)?)),
+        Form::Declarator(f) => Ok(Form::Declarator(declarators::with_token(
+            alloc, sort, f, token,
+        )?)),
+        Form::Declaration(f) => Ok(Form::Declaration(declarations::with_token(
+            alloc, sort, f, token,
+        )?)),
     }
 }

@@ -8,12 +8,12 @@ ghost use Rattle.l2_tree.specs.Units.{expr_tree};
 ghost use Rattle.l2_parse_unit.specs.Reading.{OnRefusal, kept as as_kept};
 ghost use Rattle.l2_parse_expr.specs.Reading.{Reads, IsRefusedFrom};
 
-use l2_forms::{FormError, expression as expression_of};
+use l2_forms::expression as expression_of;
 use l2_grammar::Level;
 use l2_parse_unit::{kept, last_place};
 use l2_reader::{ParseError, expression as read_expression};
 use l2_syntax::{Refusal, Rule, TextFault, Token, Tokens};
-use l2_tree::Expr;
+use l2_tree::{Expr, FormError};
 use std::alloc::Global;
 
 /// The refusal at a token, or behind the last.
@@ -69,7 +69,9 @@ fn refusal(
             place: tokens.list.as_slice()[index].place,
             rule: Rule::Nesting,
         }),
-        ParseError::Syntax(index) => TextFault::At(syntax_at(tokens, plain, at, depth, level, index)),
+        ParseError::Syntax(index) => TextFault::At(syntax_at(
+            tokens, plain, at, depth, level, index,
+        )),
         ParseError::NoMemory => TextFault::NoMemory,
     }
 }

@@ -51,4 +51,5 @@ stopped_behind_all r ps u f e s h t =
     lexical f t (record { unit = u; rest = []; spells = subst (λ x. grammar.Spells x u) (e ∙ sym (nil_right (kept r.list))) s }) (subst (λ x. Shallow x []) e h)
 
 pub ruleset wholes = (tree_keeps, run_spelt, plain_shallow)
+
 pub ruleset stopped_behind = (stopped_behind_all)

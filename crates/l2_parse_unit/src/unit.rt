@@ -10,20 +10,15 @@ ghost use Rattle.l2_parse_unit.specs.Reading.{Spells, IsRefused, OnRefusal, kept
 use crate::copies::{constants, kept, names};
 use crate::refusals::refusal;
 use l2_bits::List;
-use l2_forms::{FormError, externals};
+use l2_forms::externals;
 use l2_reader::{Open, read};
 use l2_syntax::{TextFault, Token, Tokens};
-use l2_tree::Unit;
+use l2_tree::{FormError, Unit};
 use std::alloc::Global;
 
 /// The unit of a text that was read whole.
 #[tactic(auto, using(crate::proofs::Wholes::wholes))]
-fn unit_of(
-    alloc: Global,
-    tokens: &Tokens,
-    plain: &[Token],
-    text: &Open,
-) -> Result<Unit, TextFault>
+fn unit_of(alloc: Global, tokens: &Tokens, plain: &[Token], text: &Open) -> Result<Unit, TextFault>
     requires unstopped { tokens.now.stop ≡ None }
     requires plain { map seen plain.now ≡ as_kept tokens.now.list }
     requires spelt { grammar.Spells (map seen plain.now) (tree_of text.now) }

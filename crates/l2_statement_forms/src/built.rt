@@ -4,10 +4,9 @@ ghost use Rattle.l2_tree.specs.Trees.{no_stmts, and_stmt, no_branches, Block, If
 ghost use Rattle.l2_tree.specs.Units.{stmt_tree, stmts_onto, branches_onto};
 ghost use Rattle.l2_statement_forms.specs.Forms.{chain_branches};
 
-use crate::error::FormError;
 use crate::form::Chain;
 use l2_syntax::Place;
-use l2_tree::{Branch, Stmt};
+use l2_tree::{Branch, FormError, Stmt};
 
 /// All branches, the last with the others.
 #[tactic(auto, using(l2_tree::proofs::Statements::statements))]

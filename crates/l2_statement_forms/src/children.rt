@@ -8,11 +8,10 @@ ghost use Rattle.l2_tree.specs.Units.{expr_tree, declaration_tree, stmt_tree};
 ghost use Rattle.l2_statement_forms.specs.Forms.{state_of, tree_of, head_tree, is_stated};
 
 use crate::built::{chosen, chosen_or, pushed, whole};
-use crate::error::FormError;
 use crate::form::{Chain, Ending, Head, HeadWord, StatementForm, SwitchLabel};
 use l2_grammar::{Sort, State};
 use l2_syntax::Place;
-use l2_tree::{Branch, Declaration, Expr, First, Stmt, item_of};
+use l2_tree::{Branch, Declaration, Expr, First, FormError, Stmt, item_of};
 use std::alloc::Global;
 
 /// A form behind an expression that stands in it: a test, a part of a `for`, the value of a `case` or of a `return`.

@@ -3,13 +3,11 @@
 
 mod built;
 mod children;
-mod error;
 mod form;
 mod starts;
 mod tokens;
 
 pub use children::{stmt_of, with_declaration, with_expr, with_stmt};
-pub use error::FormError;
 pub use form::{Chain, Ending, Head, HeadWord, StatementForm, SwitchLabel};
 pub use starts::{begin, begins_statement, evaluated, labelled};
 pub use tokens::with_token;

@@ -8,12 +8,11 @@ ghost use Rattle.l2_tree.specs.Units.{stmt_tree};
 ghost use Rattle.l2_statement_forms.specs.Forms.{state_of, tree_of, behind_token, ending_tree};
 
 use crate::built::{block, whole};
-use crate::error::FormError;
 use crate::form::{Chain, Ending, Head, HeadWord, StatementForm, SwitchLabel};
 use l2_grammar::{Sort, State};
 use l2_networks::only;
 use l2_syntax::{Mark, Place, Token};
-use l2_tree::{Branch, Expr, First, Stmt};
+use l2_tree::{Branch, Expr, First, FormError, Stmt};
 
 #[tactic(auto, unfolding(l2_grammar::specs::Networks::on_token, l2_grammar::specs::Marks::is))]
 fn after_block(sort: Sort, place: Place, items: Vec<Stmt>, token: Token) -> StatementForm

@@ -3,6 +3,7 @@
 #![tactic(auto)]
 
 mod declared;
+mod error;
 mod expression;
 mod laws;
 mod operators;
@@ -10,6 +11,7 @@ mod statement;
 mod unit;
 
 pub use declared::{global_of, item_of};
+pub use error::FormError;
 pub use expression::{
     Core, Declaration, Declarator, Declared, Enumerator, Expr, Initialiser, Parameter, Pointer,
     Specifier, Suffix, Tag,

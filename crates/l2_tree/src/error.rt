@@ -11,8 +11,8 @@ pub enum FormError {
 
 impl From<AllocError> for FormError {
     ghost use Rattle.std.specs.Prelude.{◌≡◌};
-    ghost use Rattle.l2_expression_forms.specs.declared.error.FormError.{FormError};
-    ghost use Rattle.l2_expression_forms.specs.declared.error.FormError.TheVariants.{NoMemory};
+    ghost use Rattle.l2_tree.specs.declared.error.FormError.{FormError};
+    ghost use Rattle.l2_tree.specs.declared.error.FormError.TheVariants.{NoMemory};
 
     ghost from_gives = { λ e f. f ≡ NoMemory };
 
@@ -23,8 +23,8 @@ impl From<AllocError> for FormError {
 
 impl<T: Drop> From<AllocFailed<T>> for FormError {
     ghost use Rattle.std.specs.Prelude.{◌≡◌};
-    ghost use Rattle.l2_expression_forms.specs.declared.error.FormError.{FormError};
-    ghost use Rattle.l2_expression_forms.specs.declared.error.FormError.TheVariants.{NoMemory};
+    ghost use Rattle.l2_tree.specs.declared.error.FormError.{FormError};
+    ghost use Rattle.l2_tree.specs.declared.error.FormError.TheVariants.{NoMemory};
 
     ghost from_gives = { λ e f. f ≡ NoMemory };
 
