@@ -6,8 +6,6 @@ mod laws;
 mod lexing;
 mod marks;
 mod state;
-#[cfg(test)]
-mod tests;
 
 pub use laws::tokens_law;
 pub use lexing::tokens;

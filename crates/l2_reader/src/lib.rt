@@ -8,8 +8,6 @@ mod reader;
 mod stack;
 mod steps;
 mod syntax;
-#[cfg(test)]
-mod tests;
 
 pub use error::{ParseError, ReadError};
 pub use expressions::expression;

@@ -8,8 +8,6 @@ mod operators;
 mod replay_program;
 mod start;
 mod statements;
-#[cfg(test)]
-mod tests;
 
 pub use answer::Replay;
 pub use replay_program::replay;

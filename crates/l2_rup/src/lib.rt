@@ -5,7 +5,5 @@ mod checker;
 mod held;
 mod hints;
 mod known;
-#[cfg(test)]
-mod tests;
 
 pub use checker::{Checker, StepError};

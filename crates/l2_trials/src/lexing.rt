@@ -1,4 +1,4 @@
-use crate::tokens;
+use l2_lex::tokens;
 use l2_syntax::{Mark, Place, Rule, Scalar, Token, TokenKind};
 use std::test::Fail;
 

@@ -1,4 +1,4 @@
-use crate::{Assignment, ClauseList, Lines, Lit, Trail, satisfies};
+use l2_cnf::{Assignment, ClauseList, Lines, Lit, Trail, satisfies};
 use std::test::Fail;
 
 fn crosses_threads<T: Send + Sync>(_value: &T) {}

@@ -2,8 +2,8 @@ ghost use Rattle.std.specs.Prelude.{IfOk};
 ghost use Rattle.std.specs.Bool.{OnTrue};
 ghost use Rattle.l2_cnf.specs.Logic.{IsWithin, AllWithin};
 
-use crate::{Checker, StepError};
 use l2_cnf::{ClauseList, Lit};
+use l2_rup::{Checker, StepError};
 use std::alloc::{AllocError, Global};
 use std::process::Abort;
 use std::test::Fail;

@@ -1,6 +1,6 @@
-use crate::replay;
 use l2_bits::{List, Ty};
 use l2_meaning::Outcome;
+use l2_replay::replay;
 use l2_syntax::{
     BinaryOperator, CellType, CellValue, CheckInfo, Checked, FunctionInfo, Kind, Lvalue, Name,
     ObjectInfo, Place, Program, Typed,

@@ -1,7 +1,5 @@
-use crate::error::ParseError;
-use crate::expressions::expression;
-use crate::reader::read;
 use l2_grammar::Level;
+use l2_reader::{ParseError, expression, read};
 use l2_syntax::{Mark, Place, Token, TokenKind};
 use std::test::Fail;
 
