@@ -2,7 +2,7 @@ use Rattle.std.proofs.Common.{◌≡◌, ◌∙◌, true, sym, subst, rules}
 use Rattle.std.proofs.lemmas.Bool.{OnTrue_at}
 use Rattle.l2_cnf.specs.Logic.{AllWithin, IsWithin}
 use Rattle.l2_cnf.proofs.Within.{AllWithin-push}
-use Rattle.l2_rup.proofs.tests.base_of.Goals as goal
+use Rattle.l2_trials.proofs.steps.base_of.Goals as goal
 
 pub loop-clause-preserved : goal.loop-clause-preserved
 loop-clause-preserved g c =

@@ -1,5 +1,5 @@
 use Rattle.std.proofs.Common.{◌≤◌}
-use Rattle.l2_rup.proofs.tests.begins_anew_over_the_same_base.Given as goal
+use Rattle.l2_trials.proofs.steps.begins_anew_over_the_same_base.Given as goal
 
 abbrev pub invariant-loop-hints : goal.invariant-loop-hints
 invariant-loop-hints g l = record {
