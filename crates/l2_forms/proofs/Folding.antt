@@ -1,6 +1,8 @@
 -- Folding parts: what holds of a whole construct holds of what has been read of it, and is so behind each part.
 use Rattle.std.proofs.Common.{◌≡◌, ℕ, ◌+◌, ◌<◌, length, drop, get_or, List, [], ◌∷◌, Bool, true, false, not, refl, ap, sym, ◌∙◌, subst}
 use Rattle.std.proofs.lemmas.List.{at_drop_more}
+use Rattle.std.specs.declared.vec.Vec.{Vec}
+use Rattle.std.specs.declared.alloc.Global.{Global}
 use Rattle.l2_grammar.specs.declared.states.Sort.{Sort}
 use Rattle.l2_grammar.specs.declared.states.State.{State}
 use Rattle.l2_grammar.specs.declared.states.State.TheVariants as state
@@ -12,6 +14,7 @@ use Rattle.l2_syntax.specs.declared.token.Token.{Token}
 use Rattle.l2_reader.specs.declared.syntax.Syntax as syntax
 use Rattle.l2_reader.specs.declared.syntax.Syntax.{Syntax}
 use Rattle.l2_reader.specs.Parts.{seen, with_part, parts_onto}
+use Rattle.l2_reader.proofs.Parts.{with_part-Construct}
 use Rattle.l2_tree.specs.Spelling.{plain}
 use Rattle.l2_forms.specs.Forms.{state_of, tree_of, tree, Tied, Ready, Keeps}
 use Rattle.l2_forms.specs.declared.form.Form.{Form}
@@ -50,6 +53,28 @@ next_keeps r whole xs i x e l at f = keeps_before (with_part r x) (drop (i + 1) 
 pub next_tree : (q r whole : Tree) (xs : List Syntax) (i : ℕ) (x : Syntax) → parts_onto r (drop i xs) ≡ whole → i < length xs → x ≡ get_or xs i x →
     q ≡ with_part r x → parts_onto q (drop (i + 1) xs) ≡ whole
 next_tree q r whole xs i x e l at h = ap (λ y. parts_onto y (drop (i + 1) xs)) h ∙ next_onto r whole xs i x e l at
+
+-- ---- a construct among the parts
+
+pub part_tree : (r : Tree) (x : Syntax) (s : Sort) (all : Vec Syntax Global) (xs : List Syntax) (b : Tree) → x ≡ syntax.Construct s all → xs ≡ all.items →
+    b ≡ parts_onto (begin s) xs → child r b ≡ with_part r x
+part_tree r x s all xs b e d h = ap (child r) (h ∙ ap (parts_onto (begin s)) d) ∙ sym (with_part-Construct r s all) ∙ sym (ap (with_part r) e)
+
+pub part_fits : (r : Tree) (x : Syntax) (s : Sort) (all : Vec Syntax Global) (xs : List Syntax) (b : Tree) → x ≡ syntax.Construct s all → xs ≡ all.items →
+    b ≡ parts_onto (begin s) xs → Fits (with_part r x) → Fits (child r b)
+part_fits r x s all xs b e d h f = subst Fits (sym (part_tree r x s all xs b e d h)) f
+
+pub inner_fits : (r : Tree) (x : Syntax) (s : Sort) (all : Vec Syntax Global) (xs : List Syntax) → x ≡ syntax.Construct s all → xs ≡ all.items →
+    Fits (with_part r x) → Fits (parts_onto (begin s) xs)
+inner_fits r x s all xs e d f = go (part_fits r x s all xs (parts_onto (begin s) xs) e d refl f) where
+  go : Fits (child r (parts_onto (begin s) xs)) → Fits (parts_onto (begin s) xs)
+  go (a, b, place, h) = b
+
+pub inner_keeps : (r : Tree) (x : Syntax) (s : Sort) (all : Vec Syntax Global) (xs : List Syntax) → x ≡ syntax.Construct s all → xs ≡ all.items →
+    Keeps (with_part r x) → Keeps (parts_onto (begin s) xs)
+inner_keeps r x s all xs e d f = go (subst Keeps (sym (part_tree r x s all xs (parts_onto (begin s) xs) e d refl)) f) where
+  go : Keeps (child r (parts_onto (begin s) xs)) → Keeps (parts_onto (begin s) xs)
+  go (a, b) = b
 
 -- ---- the sort and the state that are kept
 

@@ -8,7 +8,8 @@ use Rattle.l2_grammar.specs.declared.states.Outcome.TheVariants as outcome
 use Rattle.l2_grammar.specs.Nesting.{stands, outcome as outcome_of, is_sizeof, is_initialiser}
 use Rattle.l2_grammar.specs.Trees.{Tree, begin, token, child, sort as sort_of, state as state_in, Fits}
 use Rattle.l2_grammar.specs.Law.{IsUnit}
-use Rattle.l2_grammar.specs.States.{Level, comma_level, assignment_level, conditional_level}
+use Rattle.l2_grammar.specs.declared.states.Level.{Level}
+use Rattle.l2_grammar.specs.declared.states.Level.TheVariants as level
 use Rattle.l2_grammar.specs.Expressions.{IsExpression, sort_at}
 use Rattle.l2_expression_forms.specs.declared.form.ExprForm.{ExprForm}
 use Rattle.l2_expression_forms.specs.declared.form.ExprForm.TheVariants as expr
@@ -164,14 +165,14 @@ expression_stands c l r d e w =
     (subst (λ s. stands s (state_in r) ≡ true) w.sorted (value_stands r w.fits w.whole))
 
 pub level_no_sizeof : (l : Level) → is_sizeof (sort_at l) ≡ false
-level_no_sizeof comma_level = refl
-level_no_sizeof assignment_level = refl
-level_no_sizeof conditional_level = refl
+level_no_sizeof level.Comma = refl
+level_no_sizeof level.Assignment = refl
+level_no_sizeof level.Conditional = refl
 
 level_no_initialiser : (l : Level) → is_initialiser (sort_at l) ≡ false
-level_no_initialiser comma_level = refl
-level_no_initialiser assignment_level = refl
-level_no_initialiser conditional_level = refl
+level_no_initialiser level.Comma = refl
+level_no_initialiser level.Assignment = refl
+level_no_initialiser level.Conditional = refl
 
 pub level_no_braces : (l : Level) (f : DeclarationForm) → outcome_of (declarations.state_of f) ≡ outcome.Value → stands (sort_at l) (declarations.state_of f) ≡ true → ⊥
 level_no_braces l f h s = let g : false ≡ true = sym (level_no_initialiser l) ∙ declaration_braced f (sort_at l) h s in cc

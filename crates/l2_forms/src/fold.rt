@@ -9,7 +9,7 @@ ghost use Rattle.l2_reader.specs.Parts.{seen, with_part as then_part, parts_onto
 ghost use Rattle.l2_tree.specs.Units.{external_tree, expr_tree};
 ghost use Rattle.l2_tree.specs.Spelling.{plain, run_unit, run_expr};
 ghost use Rattle.l2_expression_forms.specs.Forms.{state_of as expression_state, tree_of as expression_tree};
-ghost use Rattle.l2_forms.specs.Forms.{ tree, Ready, Keeps};
+ghost use Rattle.l2_forms.specs.Forms.{tree, Ready, Keeps};
 
 use crate::children::with_child;
 use crate::form::{Construct, Form};
@@ -167,8 +167,9 @@ fn expression_of(whole: Construct, level: Level) -> Expr
     ensures { run_expr (sort_at level) (expr_tree result) ≡ tree whole }
 {
     let _ = level;
+    let sort = whole.sort;
     match whole.form {
-        Form::Expression(form) => value_of(whole.sort, form),
+        Form::Expression(form) => value_of(sort, form),
         Form::Fresh => unreachable!(),
         Form::Unit(_) => unreachable!(),
         Form::Whole(_) => unreachable!(),
