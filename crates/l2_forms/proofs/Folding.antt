@@ -119,5 +119,5 @@ pub tied_child : (s z : Sort) (f g h : Form) → Tied s f → Tied z h → state
 tied_child s z f g h a b o e = record {
   sorted = ap sort_of e ∙ a.sorted;
   stated = ap state_in e ∙ ap (λ y. on_child y (state_in (tree_of s f)) (outcome_of (state_in (tree_of z h)))) a.sorted
-    ∙ ap (λ q. on_child s q (outcome_of (state_in (tree_of z h)))) a.stated ∙ ap (λ q. on_child s (state_of f) (outcome_of q)) b.stated ∙ sym o;
+      ∙ ap (λ q. on_child s q (outcome_of (state_in (tree_of z h)))) a.stated ∙ ap (λ q. on_child s (state_of f) (outcome_of q)) b.stated ∙ sym o;
 }

@@ -6,10 +6,13 @@ use Rattle.l2_forms.proofs.fold.+fold.Goals as goal
 
 pub with_part-folded-requires : goal.with_part-folded-requires
 with_part-folded-requires t c =
-    let w = inner_weight _ _ _ _ c.in-Construct.is c.deref.ensures.value in
-    (omega arith,
-    (inner_fits _ _ _ _ _ c.in-Construct.is c.deref.ensures.value c.requires.fits,
-     inner_keeps _ _ _ _ _ c.in-Construct.is c.deref.ensures.value c.requires.keeps))
+    let w = inner_weight _ _ _ _ c.in-Construct.is c.deref.ensures.value in (
+      omega arith,
+      (
+        inner_fits _ _ _ _ _ c.in-Construct.is c.deref.ensures.value c.requires.fits,
+        inner_keeps _ _ _ _ _ c.in-Construct.is c.deref.ensures.value c.requires.keeps,
+      ),
+    )
 
 pub with_part-around-requires-clause-place : goal.with_part-around-requires-clause-place
 with_part-around-requires-clause-place t c =
@@ -34,8 +37,13 @@ with_part-returns-in_ok-inner-in-Construct-clause-tree t c =
 
 pub folded-with_part-requires : goal.folded-with_part-requires
 folded-with_part-requires t c =
-    let w = weight_at _ _ _ c.loop-part-test.true c.part-item.is in
-    (omega arith,
-    (c.loop-part.invariant.ready,
-    (next_fits _ _ _ _ _ c.loop-part.invariant.so_far c.loop-part-test.true c.part-item.is c.requires.fits,
-     next_keeps _ _ _ _ _ c.loop-part.invariant.so_far c.loop-part-test.true c.part-item.is c.requires.keeps)))
+    let w = weight_at _ _ _ c.loop-part-test.true c.part-item.is in (
+      omega arith,
+      (
+        c.loop-part.invariant.ready,
+        (
+          next_fits _ _ _ _ _ c.loop-part.invariant.so_far c.loop-part-test.true c.part-item.is c.requires.fits,
+          next_keeps _ _ _ _ _ c.loop-part.invariant.so_far c.loop-part-test.true c.part-item.is c.requires.keeps,
+        ),
+      ),
+    )
