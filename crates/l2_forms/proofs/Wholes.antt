@@ -179,4 +179,4 @@ level_no_braces l f h s = let g : false ≡ true = sym (level_no_initialiser l) 
 
 pub ruleset texts = (text_ends, text_sort, fresh_no_end, expression_no_end, statement_no_end, declarator_no_end, declaration_no_end)
 
-pub ruleset values = (expression_value, expression_sort, expression_stands, level_no_sizeof, level_no_braces, fresh_no_value, end_no_value, statement_no_value, declarator_no_value)
+pub ruleset values = (expression_value, expression_sort, expression_stands, level_no_sizeof, fresh_no_value, end_no_value, statement_no_value, declarator_no_value)
