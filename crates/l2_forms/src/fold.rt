@@ -2,19 +2,20 @@
 ghost use Rattle.std.specs.Prelude.{◌≡◌, IfOk, IfErr, map, true, false};
 ghost use Rattle.l2_grammar.specs.Law.{IsUnit};
 ghost use Rattle.l2_grammar.specs.Expressions.{IsExpression, sort_at};
-ghost use Rattle.l2_grammar.specs.Nesting.{stands as may_stand, on_child as behind_child, opens as opened, outcome as outcome_of};
+ghost use Rattle.l2_grammar.specs.Nesting.{stands as may_stand, on_child as behind_child, opens as opened, outcome as outcome_of, is_sizeof};
 ghost use Rattle.l2_grammar.specs.Reader.{takes};
 ghost use Rattle.l2_grammar.specs.Trees.{begin, token as then_token, child as then_child, Fits};
 ghost use Rattle.l2_reader.specs.Parts.{seen, with_part as then_part, parts_onto, tree_of as open_tree};
 ghost use Rattle.l2_tree.specs.Units.{external_tree, expr_tree};
 ghost use Rattle.l2_tree.specs.Spelling.{plain, run_unit, run_expr};
-ghost use Rattle.l2_forms.specs.Forms.{state_of, tree, Ready, Keeps};
+ghost use Rattle.l2_expression_forms.specs.Forms.{state_of as expression_state, tree_of as expression_tree};
+ghost use Rattle.l2_forms.specs.Forms.{tree, Ready, Keeps};
 
 use crate::children::with_child;
 use crate::form::{Construct, Form};
 use crate::tokens::with_token;
 use l2_expression_forms::ExprForm;
-use l2_grammar::{Level, Sort, State};
+use l2_grammar::{Level, Outcome, Sort, State};
 use l2_networks::{on_child, on_token, outcome};
 use l2_reader::{Open, Syntax};
 use l2_syntax::Token;
@@ -113,18 +114,65 @@ fn folded(alloc: Global, sort: Sort, parts: &[Syntax]) -> Result<Construct, Form
     Ok(construct)
 }
 
+/// The parts of a whole text.
+#[tactic(auto, using(crate::proofs::Wholes::texts))]
+fn externals_of(whole: Construct) -> Vec<External>
+    requires ready { Ready whole }
+    requires unit { IsUnit (tree whole) }
+    ensures { run_unit (map external_tree result.items) ≡ tree whole }
+{
+    match whole.form {
+        Form::Whole(parts) => parts,
+        Form::Fresh => unreachable!(),
+        Form::Unit(_) => unreachable!(),
+        Form::Expression(_) => unreachable!(),
+        Form::Statement(_) => unreachable!(),
+        Form::Declarator(_) => unreachable!(),
+        Form::Declaration(_) => unreachable!(),
+    }
+}
+
 /// The parts of a text that was read.
 pub fn externals(alloc: Global, text: &Open) -> Result<Vec<External>, FormError>
     requires unit { IsUnit (open_tree text.now) }
     requires keeps { Keeps (open_tree text.now) }
     ensures { IfOk result (λ xs. run_unit (map external_tree xs.items) ≡ open_tree text.now) }
 {
-    let whole = folded(alloc, text.sort, &text.parts)?;
+    match folded(alloc, text.sort, &text.parts) {
+        Ok(whole) => Ok(externals_of(whole)),
+        Err(f) => Err(f),
+    }
+}
+
+/// The expression of a form that has the value of one, and not of the name of a type.
+#[tactic(auto, unfolding(l2_grammar::specs::Nesting::outcome, l2_grammar::specs::Nesting::stands))]
+fn value_of(sort: Sort, form: ExprForm) -> Expr
+    requires value { outcome_of (expression_state form) ≡ Outcome.Value }
+    requires standing { may_stand sort (expression_state form) ≡ true }
+    requires place { is_sizeof sort ≡ false }
+    ensures { run_expr sort (expr_tree result) ≡ expression_tree sort form }
+{
+    let _ = sort;
+    match form {
+        ExprForm::Whole(_, value) => value,
+        _ => unreachable!(),
+    }
+}
+
+/// The expression of a whole construct of this level.
+#[tactic(auto, using(crate::proofs::Wholes::values))]
+fn expression_of(whole: Construct, level: Level) -> Expr
+    requires ready { Ready whole }
+    requires whole { IsExpression level (tree whole) }
+    ensures { run_expr (sort_at level) (expr_tree result) ≡ tree whole }
+{
+    let _ = level;
+    let sort = whole.sort;
     match whole.form {
-        Form::Whole(parts) => Ok(parts),
+        Form::Expression(form) => value_of(sort, form),
         Form::Fresh => unreachable!(),
         Form::Unit(_) => unreachable!(),
-        Form::Expression(_) => unreachable!(),
+        Form::Whole(_) => unreachable!(),
         Form::Statement(_) => unreachable!(),
         Form::Declarator(_) => unreachable!(),
         Form::Declaration(_) => unreachable!(),
@@ -137,9 +185,8 @@ pub fn expression(alloc: Global, text: &Open, level: Level) -> Result<Expr, Form
     requires keeps { Keeps (open_tree text.now) }
     ensures { IfOk result (λ e. run_expr (sort_at level) (expr_tree e) ≡ open_tree text.now) }
 {
-    let whole = folded(alloc, text.sort, &text.parts)?;
-    match whole.form {
-        Form::Expression(ExprForm::Whole(_, value)) => Ok(value),
-        _ => unreachable!(),
+    match folded(alloc, text.sort, &text.parts) {
+        Ok(whole) => Ok(expression_of(whole, level)),
+        Err(f) => Err(f),
     }
 }
