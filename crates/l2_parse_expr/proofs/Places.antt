@@ -1,25 +1,24 @@
 -- What an index says of where an expression is refused.
-use Rattle.std.proofs.Common.{◌≡◌, refl, ap, sym, ◌∙◌, subst, ℕ, ◌+◌, ◌≤◌, ◌<◌, List, [], ◌∷◌, map, drop, length, slice_index_or, None, Some}
-use Rattle.std.proofs.lemmas.List.{at_drop_more, drop-map, length-map, drop_all}
+use Rattle.std.proofs.Common.{◌≡◌, refl, ap, sym, ◌∙◌, subst, ℕ, ◌+◌, ◌≤◌, ◌<◌, List, [], ◌∷◌, ◌++◌, map, drop, length, slice_index_or, None, Some}
+use Rattle.std.proofs.lemmas.List.{at_drop_more, drop-map, drop_all}
 use Rattle.l2_syntax.specs.declared.token.Token.{Token}
 use Rattle.l2_syntax.specs.declared.refusal.Rule.TheVariants as rule
 use Rattle.l2_syntax.specs.declared.refusal.Refusal.{Refusal}
 use Rattle.l2_grammar.specs.declared.states.Level.{Level}
 use Rattle.l2_grammar.specs.Trees.{Seen, Tree}
-use Rattle.l2_grammar.specs.Expressions.{EndsBefore, NestsAt, BreaksAt, sort_at}
+use Rattle.l2_grammar.specs.Expressions.{IsExpression, EndsBefore, NestsAt, BreaksAt, sort_at}
 use Rattle.l2_reader.specs.Parts.{seen}
 use Rattle.l2_reader.specs.Turns.{seen_from}
 use Rattle.l2_lex.specs.Lexing.{Lexed}
 use Rattle.l2_tree.specs.Trees.{ExprTree}
 use Rattle.l2_tree.specs.Spelling.{plain, run_expr}
+use Rattle.l2_forms.specs.Forms.{Keeps}
 use Rattle.l2_parse_unit.specs.Reading.{kept, last_place, start}
+use Rattle.l2_parse_unit.proofs.Wholes.{AllPlain, kept_plain, keeps}
 use Rattle.l2_parse_expr.specs.Reading.{kept_from, Reads, IsRefusedFrom, nested, stopped, lexical, ended}
 
 pub from_is : (ts ps : List Token) (i : ℕ) → map seen ps ≡ kept ts → seen_from i ps ≡ kept_from i ts
 from_is ts ps i e = sym (drop-map seen i ps) ∙ ap (drop i) e ∙ drop-map (λ t. plain (record { kind = t.kind; at = t.place })) i ts
-
-pub same_length : (ts ps : List Token) → map seen ps ≡ kept ts → length ps ≡ length ts
-same_length ts ps e = sym (length-map ps seen) ∙ ap length e ∙ length-map ts (λ t. plain (record { kind = t.kind; at = t.place }))
 
 -- a statement on the plain tokens from two indices on is one on the tokens as trees keep them
 moved : (P : List Seen → List Seen → Type 0) (ts ps : List Token) (at i : ℕ) → map seen ps ≡ kept ts → P (seen_from at ps) (seen_from i ps) → P (kept_from at ts) (kept_from i ts)
@@ -49,3 +48,15 @@ ended_at l n r ps at i e w h s = ended s (behind_all l n r ps at i e w h)
 pub reads_at : (l : Level) (n : ℕ) (ts ps : List Token) (at end : ℕ) (e : ExprTree) (r : Tree) → map seen ps ≡ kept ts → EndsBefore l n (seen_from at ps) r (seen_from end ps) → run_expr (sort_at l) e ≡ r → Reads l n ts at e end
 reads_at l n ts ps at end e r p h q =
     subst (λ x. EndsBefore l n (kept_from at ts) x (kept_from end ts)) (sym q) (moved (λ x y. EndsBefore l n x r y) ts ps at end p h)
+
+plain_front : (us rest : List Seen) → AllPlain (us ++ rest) → AllPlain us
+plain_front [] rest h = tt
+plain_front (u ∷ us) rest h = (h.0, plain_front us rest h.1)
+
+-- the tree of an expression that was read keeps its tokens as trees do
+pub tree_keeps : (l : Level) (n : ℕ) (ts ps : List Token) (at : ℕ) (r : Tree) (rest : List Seen) → map seen ps ≡ kept ts → EndsBefore l n (seen_from at ps) r rest → Keeps r
+tree_keeps l n ts ps at r rest e h =
+    (keeps r [] (subst AllPlain (sym h.spells.spelled) (plain_front h.used rest (subst AllPlain (sym (from_is ts ps at e) ∙ h.parts) (kept_plain (drop at ts)))))).0
+
+pub whole_at : (l : Level) (n : ℕ) (ts : List Seen) (r : Tree) (rest : List Seen) → EndsBefore l n ts r rest → IsExpression l r
+whole_at l n ts r rest h = h.spells.whole

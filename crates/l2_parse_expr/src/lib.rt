@@ -2,6 +2,8 @@
 #![tactic(auto)]
 
 mod reading;
+#[cfg(test)]
+mod tests;
 
 pub use l2_grammar::Level;
 pub use reading::expression;

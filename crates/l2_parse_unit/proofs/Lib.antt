@@ -1,4 +1,4 @@
 mod Refused
-mod Places
+pub mod Places
 mod Unique
-mod Wholes
+pub mod Wholes

@@ -14,7 +14,7 @@ use Rattle.l2_forms.specs.Forms.{Keeps}
 use Rattle.l2_parse_unit.specs.Reading.{kept, IsRefused, lexical}
 use Rattle.l2_parse_unit.proofs.Refused.{nil_right}
 
-abbrev AllPlain : List Seen → Type 0
+abbrev pub AllPlain : List Seen → Type 0
 AllPlain [] = Unit {0}
 AllPlain (t ∷ ts) = (plain t ≡ t) × AllPlain ts
 
@@ -28,11 +28,11 @@ at_place t p = record { kind = t.kind; at = p }
 plain_twice : (t : Seen) → plain (plain t) ≡ plain t
 plain_twice t = ap (at_place t) (plain_place (is_placed t.kind) t.at)
 
-kept_plain : (ts : List Token) → AllPlain (kept ts)
+pub kept_plain : (ts : List Token) → AllPlain (kept ts)
 kept_plain [] = tt
 kept_plain (t ∷ ts) = (plain_twice (record { kind = t.kind; at = t.place }), kept_plain ts)
 
-keeps : (r : Tree) (m : List Seen) → AllPlain (spell r m) → Keeps r × AllPlain m
+pub keeps : (r : Tree) (m : List Seen) → AllPlain (spell r m) → Keeps r × AllPlain m
 keeps (begin s) m h = (tt, h)
 keeps (token a t) m h = let g = keeps a (t ∷ m) h in ((g.0, g.1.0), g.1.1)
 keeps (child a b) m h = let g = keeps a (spell b m) h in let k = keeps b m g.1 in ((g.0, k.0), k.1)
