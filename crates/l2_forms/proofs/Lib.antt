@@ -2,3 +2,4 @@ pub mod Never
 pub mod Begun
 pub mod Left
 pub mod Links
+pub mod Joined
