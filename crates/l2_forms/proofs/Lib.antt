@@ -3,3 +3,4 @@ pub mod Begun
 pub mod Left
 pub mod Links
 pub mod Joined
+pub mod Appended
