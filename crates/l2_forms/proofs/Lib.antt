@@ -5,3 +5,5 @@ pub mod Links
 pub mod Folding
 pub mod Weights
 pub mod Wholes
+pub mod Joined
+pub mod Appended

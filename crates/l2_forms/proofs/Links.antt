@@ -433,14 +433,20 @@ unfinished_never s (state.Parameters x0 x1) h = cc
 unfinished_never s (state.ParametersMore x0 x1 x2 x3) h = cc
 unfinished_never s (state.ParametersNext x0 x1 x2) h = cc
 
-pub ruleset value = (statement_no_value, declarator_no_value, fresh_no_value, end_no_value, declaration_braced)
+pub ruleset value = (statement_no_value, declarator_no_value, fresh_no_value, end_no_value)
+
+pub ruleset braced = (declaration_braced)
+
+pub ruleset statement = (statement_whole)
+
+pub ruleset parameter = (parameter_place)
 
 pub ruleset declared = (statement_no_declaration, declarator_no_declaration, expression_no_declaration, fresh_no_declaration, end_no_declaration)
 
-pub ruleset typed = (statement_no_type, declarator_no_type, expression_no_type, fresh_no_type, end_no_type, parameter_place)
+pub ruleset typed = (statement_no_type, declarator_no_type, expression_no_type, fresh_no_type, end_no_type)
 
 pub ruleset shaped = (statement_no_declares, expression_no_declares, declaration_no_declares, fresh_no_declares, end_no_declares)
 
-pub ruleset stated = (declarator_no_stated, expression_no_stated, declaration_no_stated, fresh_no_stated, end_no_stated, statement_whole)
+pub ruleset stated = (declarator_no_stated, expression_no_stated, declaration_no_stated, fresh_no_stated, end_no_stated)
 
 pub ruleset unfinished = (unfinished_never)

@@ -4,6 +4,8 @@ ghost use Rattle.l2_grammar.specs.Nesting.{stands as may_stand, on_child as behi
 ghost use Rattle.l2_grammar.specs.Trees.{child as then_child};
 ghost use Rattle.l2_expression_forms.specs.Forms.{state_of as expression_state, tree_of as expression_tree};
 ghost use Rattle.l2_declaration_forms.specs.Forms.{whole_tree, state_of as declaration_state, tree_of as declaration_form_tree, may as may_declare};
+ghost use Rattle.l2_statement_forms.specs.Forms.{state_of as statement_state, tree_of as statement_tree};
+ghost use Rattle.l2_declarator_forms.specs.Forms.{state_of as declarator_state, tree_of as declarator_form_tree};
 ghost use Rattle.l2_tree.specs.Units.{external_tree};
 ghost use Rattle.l2_tree.specs.Spelling.{run_external};
 ghost use Rattle.l2_forms.specs.Forms.{state_of, tree_of, may, Tied};
@@ -16,10 +18,12 @@ use crate::form::Form;
 use l2_declaration_forms as declarations;
 use l2_declaration_forms::DeclarationForm;
 use l2_declarator_forms as declarators;
+use l2_declarator_forms::DeclaratorForm;
 use l2_expression_forms::ExprForm;
 use l2_grammar::{Outcome, Shape, Sort, State};
 use l2_networks::outcome;
 use l2_statement_forms as statements;
+use l2_statement_forms::StatementForm;
 use l2_tree::{External, FormError, global_of};
 use std::alloc::Global;
 
@@ -49,6 +53,29 @@ fn behind_expression(
     }
 }
 
+/// Behind an initialiser in braces.
+#[tactic(auto, using(crate::proofs::Links::braced))]
+fn behind_braces(
+    alloc: Global,
+    sort: Sort,
+    form: Form,
+    place: Sort,
+    inner: DeclarationForm,
+) -> Result<Form, FormError>
+    requires outer { Tied sort form }
+    requires may { may sort form ≡ true }
+    requires place { opened sort (state_of form) ≡ place }
+    requires standing { may_stand place (declaration_state inner) ≡ true }
+    requires whole { outcome_of (declaration_state inner) ≡ Outcome.Value }
+    requires stands { may_stand sort (behind_child sort (state_of form) Outcome.Value) ≡ true }
+    ensures state { IfOk result (λ f. state_of f ≡ behind_child sort (state_of form) Outcome.Value) }
+    ensures tree { IfOk result (λ f. tree_of sort f ≡ then_child (tree_of sort form) (declaration_form_tree place inner)) }
+    ensures may { IfOk result (λ f. may sort f ≡ true) }
+{
+    let value = declarations::initialiser_of(place, inner);
+    with_initialiser(alloc, sort, form, value)
+}
+
 /// Behind an expression, or an initialiser in braces.
 #[tactic(auto, using(crate::proofs::Links::value))]
 fn behind_value(
@@ -71,10 +98,7 @@ fn behind_value(
 {
     match inner {
         Form::Expression(f) => behind_expression(alloc, sort, form, place, f),
-        Form::Declaration(f) => {
-            let value = declarations::initialiser_of(place, f);
-            with_initialiser(alloc, sort, form, value)
-        }
+        Form::Declaration(f) => behind_braces(alloc, sort, form, place, f),
         Form::Statement(_) => unreachable!(),
         Form::Declarator(_) => unreachable!(),
         Form::Fresh => unreachable!(),
@@ -84,6 +108,29 @@ fn behind_value(
 }
 
 /// Behind a whole statement.
+#[tactic(auto, using(crate::proofs::Links::statement))]
+fn behind_stmt(
+    alloc: Global,
+    sort: Sort,
+    form: Form,
+    place: Sort,
+    inner: StatementForm,
+    shut: bool,
+) -> Result<Form, FormError>
+    requires outer { Tied sort form }
+    requires may { may sort form ≡ true }
+    requires place { opened sort (state_of form) ≡ place }
+    requires whole { outcome_of (statement_state inner) ≡ (Outcome.Stated shut) }
+    requires stands { may_stand sort (behind_child sort (state_of form) (Outcome.Stated shut)) ≡ true }
+    ensures state { IfOk result (λ f. state_of f ≡ behind_child sort (state_of form) (Outcome.Stated shut)) }
+    ensures tree { IfOk result (λ f. tree_of sort f ≡ then_child (tree_of sort form) (statement_tree place inner)) }
+    ensures may { IfOk result (λ f. may sort f ≡ true) }
+{
+    let body = statements::stmt_of(place, inner)?;
+    with_stmt(alloc, sort, form, body, shut)
+}
+
+/// Behind what is a whole statement.
 #[tactic(auto, using(crate::proofs::Links::stated))]
 fn behind_statement(
     alloc: Global,
@@ -104,10 +151,7 @@ fn behind_statement(
     ensures may { IfOk result (λ f. may sort f ≡ true) }
 {
     match inner {
-        Form::Statement(f) => {
-            let body = statements::stmt_of(place, f)?;
-            with_stmt(alloc, sort, form, body, shut)
-        }
+        Form::Statement(f) => behind_stmt(alloc, sort, form, place, f, shut),
         Form::Expression(_) => unreachable!(),
         Form::Declarator(_) => unreachable!(),
         Form::Declaration(_) => unreachable!(),
@@ -205,6 +249,31 @@ fn behind_declaration(sort: Sort, form: Form, place: Sort, inner: Form) -> Resul
 }
 
 /// Behind a parameter, or the name of a type.
+#[tactic(auto, using(crate::proofs::Links::parameter))]
+fn behind_typed(
+    alloc: Global,
+    sort: Sort,
+    form: Form,
+    place: Sort,
+    inner: DeclarationForm,
+    named: bool,
+    void: bool,
+) -> Result<Form, FormError>
+    requires outer { Tied sort form }
+    requires may { may sort form ≡ true }
+    requires inner { may_declare place inner ≡ true }
+    requires place { opened sort (state_of form) ≡ place }
+    requires whole { outcome_of (declaration_state inner) ≡ (Outcome.Specified named void) }
+    requires stands { may_stand sort (behind_child sort (state_of form) (Outcome.Specified named void)) ≡ true }
+    ensures state { IfOk result (λ f. state_of f ≡ behind_child sort (state_of form) (Outcome.Specified named void)) }
+    ensures tree { IfOk result (λ f. tree_of sort f ≡ then_child (tree_of sort form) (declaration_form_tree place inner)) }
+    ensures may { IfOk result (λ f. may sort f ≡ true) }
+{
+    let parameter = declarations::parameter_of(place, inner, named, void)?;
+    with_parameter(alloc, sort, form, parameter, named, void)
+}
+
+/// Behind what is a parameter, or the name of a type.
 #[tactic(auto, using(crate::proofs::Links::typed))]
 fn behind_parameter(
     alloc: Global,
@@ -226,10 +295,7 @@ fn behind_parameter(
     ensures may { IfOk result (λ f. may sort f ≡ true) }
 {
     match inner {
-        Form::Declaration(f) => {
-            let parameter = declarations::parameter_of(place, f, named, void)?;
-            with_parameter(alloc, sort, form, parameter, named, void)
-        }
+        Form::Declaration(f) => behind_typed(alloc, sort, form, place, f, named, void),
         Form::Expression(_) => unreachable!(),
         Form::Statement(_) => unreachable!(),
         Form::Declarator(_) => unreachable!(),
@@ -240,6 +306,28 @@ fn behind_parameter(
 }
 
 /// Behind a declarator.
+fn behind_shaped(
+    alloc: Global,
+    sort: Sort,
+    form: Form,
+    place: Sort,
+    inner: DeclaratorForm,
+    shape: Shape,
+) -> Result<Form, FormError>
+    requires outer { Tied sort form }
+    requires may { may sort form ≡ true }
+    requires place { opened sort (state_of form) ≡ place }
+    requires whole { outcome_of (declarator_state inner) ≡ (Outcome.Declares shape) }
+    requires stands { may_stand sort (behind_child sort (state_of form) (Outcome.Declares shape)) ≡ true }
+    ensures state { IfOk result (λ f. state_of f ≡ behind_child sort (state_of form) (Outcome.Declares shape)) }
+    ensures tree { IfOk result (λ f. tree_of sort f ≡ then_child (tree_of sort form) (declarator_form_tree place inner)) }
+    ensures may { IfOk result (λ f. may sort f ≡ true) }
+{
+    let declarator = declarators::declarator_of(alloc, place, inner, shape)?;
+    with_declarator(sort, form, declarator, shape)
+}
+
+/// Behind what is a declarator.
 #[tactic(auto, using(crate::proofs::Links::shaped))]
 fn behind_declarator(
     alloc: Global,
@@ -260,10 +348,7 @@ fn behind_declarator(
     ensures may { IfOk result (λ f. may sort f ≡ true) }
 {
     match inner {
-        Form::Declarator(f) => {
-            let declarator = declarators::declarator_of(alloc, place, f, shape)?;
-            with_declarator(sort, form, declarator, shape)
-        }
+        Form::Declarator(f) => behind_shaped(alloc, sort, form, place, f, shape),
         Form::Expression(_) => unreachable!(),
         Form::Statement(_) => unreachable!(),
         Form::Declaration(_) => unreachable!(),
