@@ -15,12 +15,15 @@ const NESTED: &str =
 const WRAPS: &str =
     "int main(void){int x=2147483647;x=x+1;assert(x==-2147483647-1);x=-x;assert(x<0);x=x-1;assert(x==2147483647);return 0;}";
 
+const DIRECTIVES: &str =
+    "# 1 \"ex.c\"\n#define N 3\nint main(void){int x=N;assert(x==3);return 0;}";
+
 const SHADOWS: &str = "int main(void){int x=1;if(x){int x=2;}return 0;}";
 
 /// The status and the text of `replay a.c v` on these files.
 fn replay_of(
     alloc: Global,
-    text: &str,
+    text: &[u8],
     values: &str,
     failing: &[u64],
     room: usize,
@@ -28,7 +31,7 @@ fn replay_of(
     let mut files = BTreeMap::new(alloc);
     files.insert(
         String::from_str(alloc, "a.c")?,
-        Vec::from_slice(alloc, text.as_bytes())?,
+        Vec::from_slice(alloc, text)?,
     )?;
     files.insert(
         String::from_str(alloc, "v")?,
@@ -109,6 +112,12 @@ fn each_row_has_its_answer(rt: HostRuntime) -> Result<(), Fail> {
             "REFUSED 1:1 not-built\n",
         ),
         (
+            DIRECTIVES,
+            "turns 0\nend\n",
+            Status::Fine,
+            "ENDED turns=0 choices=0\n",
+        ),
+        (
             "",
             "turns 0\nend\n",
             Status::Refused,
@@ -118,9 +127,55 @@ fn each_row_has_its_answer(rt: HostRuntime) -> Result<(), Fail> {
     ];
     for (text, values, want, line) in rows {
         let file = format!(in rt.alloc(); "2ls values 1\n{values}")?;
-        let (status, written) = replay_of(rt.alloc(), text, file.as_str(), &[], 100)?;
+        let (status, written) = replay_of(rt.alloc(), text.as_bytes(), file.as_str(), &[], 100)?;
         assert_eq!(rt; status, want, "at {text} {values}");
         assert_eq!(rt; written.as_slice(), line.as_bytes(), "at {text} {values}");
+    }
+    Ok(())
+}
+
+/// Each text, with how many `(` stand behind it, and its refusal.
+#[test]
+fn each_text_is_refused_where_reading_stops(rt: HostRuntime) -> Result<(), Fail> {
+    let alloc = rt.alloc();
+    let rows = [
+        (b"int g; /*".as_slice(), 0, "REFUSED 1:8 comment\n"),
+        (
+            b"int main(void){return 08;}".as_slice(),
+            0,
+            "REFUSED 1:23 literal\n",
+        ),
+        (b"#define A A".as_slice(), 0, "REFUSED 1:1 directive\n"),
+        (b"int x y;08".as_slice(), 0, "REFUSED 1:7 syntax\n"),
+        (
+            b"int main(void){return 1 2;}".as_slice(),
+            0,
+            "REFUSED 1:25 syntax\n",
+        ),
+        (b"int main(void){".as_slice(), 0, "REFUSED 1:16 syntax\n"),
+        (
+            b"int main(void){return ".as_slice(),
+            128,
+            "REFUSED 1:150 nesting\n",
+        ),
+        (
+            b"int g;\nfloat f;\nint main(void){return h;}".as_slice(),
+            0,
+            "REFUSED 2:1 keyword\n",
+        ),
+        (b"".as_slice(), 1_048_576, "REFUSED 1:1 syntax\n"),
+        (b"int \x80;".as_slice(), 0, "REFUSED 1:5 byte\n"),
+        (b"int g=\"abc".as_slice(), 0, "REFUSED 1:7 string\n"),
+    ];
+    for (start, deep, line) in rows {
+        let mut text = Vec::from_slice(alloc, start)?;
+        for _ in 0..deep {
+            text.push(b'(')?;
+        }
+        let values = "2ls values 1\nturns 0\nend\n";
+        let (status, written) = replay_of(alloc, &text, values, &[], 100)?;
+        assert_eq!(rt; status, Status::Refused, "for {line}");
+        assert_eq!(rt; written.as_slice(), line.as_bytes(), "for {line}");
     }
     Ok(())
 }
@@ -134,7 +189,7 @@ fn the_outside_fails(rt: HostRuntime) -> Result<(), Fail> {
         (&[][..], 3, Status::WriteFault, "END"),
     ];
     for (failing, room, want, line) in rows {
-        let (status, written) = replay_of(rt.alloc(), ROW, values, failing, room)?;
+        let (status, written) = replay_of(rt.alloc(), ROW.as_bytes(), values, failing, room)?;
         assert_eq!(rt; status, want);
         assert_eq!(rt; written.as_slice(), line.as_bytes());
     }

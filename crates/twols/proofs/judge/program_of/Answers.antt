@@ -1,8 +1,9 @@
-use Rattle.std.proofs.Common.{◌≡◌, Err, ap, subst}
+use Rattle.std.proofs.Common.{◌≡◌, Err, ap, subst, sym}
 use Rattle.l2_lex.specs.Code.{lexed_of}
 use Rattle.l2_tree.specs.Units.{unit_tree}
 use Rattle.l2_parse_unit.specs.Reading.{IsRefused, OnRefusal}
 use Rattle.l2_syntax.specs.declared.refusal.TextFault.{TextFault}
+use Rattle.twols.specs.Answers.{IsNoProgram, IsRefusalOf}
 use Rattle.twols.proofs.Programs.{is_not_built, is_unread}
 use Rattle.twols.proofs.judge.program_of.Goals as goal
 
@@ -13,5 +14,6 @@ returns-in-Err-NotSmall-clause-refused c =
 
 pub returns-in-Err-At-clause-refused : goal.returns-in-Err-At-clause-refused
 returns-in-Err-At-clause-refused c =
-    is_unread c.args.text.now (lexed_of c.in_ok-tokens.tokens) c.in-Err-At.refusal c.refused_law.ensures c.in_ok-tokens.ensures
-    (subst (λ e. OnRefusal e (λ f. IsRefused (lexed_of c.in_ok-tokens.tokens) f)) c.in-Err-At.field-0-is c.in-Err-At.ensures.refused)
+    subst (λ f. IsNoProgram c.args.text.now × IsRefusalOf c.args.text.now f) (sym c.in-Err-At.refusal-is)
+    (is_unread c.args.text.now (lexed_of c.in_ok-tokens.tokens) c.in-Err-At.refusal c.refused_law.ensures c.in_ok-tokens.ensures
+    (subst (λ e. OnRefusal e (λ f. IsRefused (lexed_of c.in_ok-tokens.tokens) f)) c.in-Err-At.field-0-is c.in-Err-At.ensures.refused))
