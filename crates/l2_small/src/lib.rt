@@ -7,8 +7,6 @@ mod expressions;
 mod make;
 mod operators;
 mod statements;
-#[cfg(test)]
-mod tests;
 mod tree;
 mod units;
 mod words;

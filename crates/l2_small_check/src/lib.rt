@@ -9,8 +9,6 @@ mod laws;
 mod make;
 mod statements;
 mod table;
-#[cfg(test)]
-mod tests;
 mod unit;
 
 pub use entry::Entry;

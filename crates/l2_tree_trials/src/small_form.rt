@@ -1,5 +1,5 @@
-use crate::{SmallError, SmallStmt, small};
 use l2_bits::List;
+use l2_small::{SmallError, SmallStmt, small};
 use l2_syntax::{Name, Place};
 use l2_tree::{
     BinaryOperator, Core, Declarator, Expr, External, Parameter, Specifier, SpecifierWord, Stmt,

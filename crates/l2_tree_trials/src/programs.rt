@@ -1,7 +1,6 @@
-use crate::error::CheckError;
-use crate::unit::check;
 use l2_bits::List;
 use l2_small::{SmallExpr, SmallStmt, SmallUnit};
+use l2_small_check::{CheckError, check};
 use l2_syntax::{BinaryOperator, Checked, FunctionInfo, Lvalue, Name, Place, Program, Typed};
 use std::alloc::{AllocError, Global};
 use std::test::Fail;

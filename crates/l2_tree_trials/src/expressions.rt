@@ -1,6 +1,6 @@
-use crate::reading::expression;
 use l2_bits::List;
 use l2_grammar::Level;
+use l2_parse_expr::expression;
 use l2_syntax::{Mark, Place, Refusal, Rule, Scalar, TextFault, Token, TokenKind, Tokens};
 use l2_tree::{BinaryOperator, Expr};
 use std::test::Fail;
