@@ -193,50 +193,6 @@ declaration_no_stated f b h = let g : false ≡ true = sym (ap of_declarations h
 pub declaration_no_declares : (f : DeclarationForm) (g : Shape) → outcome_of (declarations.state_of f) ≡ outcome.Declares g → ⊥
 declaration_no_declares f g h = let g : false ≡ true = sym (ap of_declarations h) ∙ declaration_outcome f in cc
 
-abbrev is_unfinished : Outcome → Bool
-is_unfinished outcome.Unfinished = true
-is_unfinished o = false
-
-pub fresh_no_value : outcome_of state.Fresh ≡ outcome.Value → ⊥
-unfolding outcome_of
-fresh_no_value h = let g : true ≡ false = ap is_unfinished h in cc
-
-pub fresh_no_stated : (b : Bool) → outcome_of state.Fresh ≡ outcome.Stated b → ⊥
-unfolding outcome_of
-fresh_no_stated b h = let g : true ≡ false = ap is_unfinished h in cc
-
-pub fresh_no_declaration : outcome_of state.Fresh ≡ outcome.Declaration → ⊥
-unfolding outcome_of
-fresh_no_declaration h = let g : true ≡ false = ap is_unfinished h in cc
-
-pub fresh_no_type : (a : Bool) (v : Bool) → outcome_of state.Fresh ≡ outcome.Specified a v → ⊥
-unfolding outcome_of
-fresh_no_type a v h = let g : true ≡ false = ap is_unfinished h in cc
-
-pub fresh_no_declares : (g : Shape) → outcome_of state.Fresh ≡ outcome.Declares g → ⊥
-unfolding outcome_of
-fresh_no_declares g h = let g : true ≡ false = ap is_unfinished h in cc
-
-pub end_no_value : outcome_of state.UnitEnd ≡ outcome.Value → ⊥
-unfolding outcome_of
-end_no_value h = let g : true ≡ false = ap is_unfinished h in cc
-
-pub end_no_stated : (b : Bool) → outcome_of state.UnitEnd ≡ outcome.Stated b → ⊥
-unfolding outcome_of
-end_no_stated b h = let g : true ≡ false = ap is_unfinished h in cc
-
-pub end_no_declaration : outcome_of state.UnitEnd ≡ outcome.Declaration → ⊥
-unfolding outcome_of
-end_no_declaration h = let g : true ≡ false = ap is_unfinished h in cc
-
-pub end_no_type : (a : Bool) (v : Bool) → outcome_of state.UnitEnd ≡ outcome.Specified a v → ⊥
-unfolding outcome_of
-end_no_type a v h = let g : true ≡ false = ap is_unfinished h in cc
-
-pub end_no_declares : (g : Shape) → outcome_of state.UnitEnd ≡ outcome.Declares g → ⊥
-unfolding outcome_of
-end_no_declares g h = let g : true ≡ false = ap is_unfinished h in cc
-
 pub declaration_braced : (f : DeclarationForm) (z : Sort) → outcome_of (declarations.state_of f) ≡ outcome.Value → stands z (declarations.state_of f) ≡ true → is_initialiser z ≡ true
 unfolding outcome_of stands
 declaration_braced (dcln.Specifiers (spec.BeforeType x0)) z h t = absurd (cc)
@@ -433,20 +389,27 @@ unfinished_never s (state.Parameters x0 x1) h = cc
 unfinished_never s (state.ParametersMore x0 x1 x2 x3) h = cc
 unfinished_never s (state.ParametersNext x0 x1 x2) h = cc
 
-pub ruleset value = (statement_no_value, declarator_no_value, fresh_no_value, end_no_value)
-
 pub ruleset braced = (declaration_braced)
 
 pub ruleset statement = (statement_whole)
 
 pub ruleset parameter = (parameter_place)
 
-pub ruleset declared = (statement_no_declaration, declarator_no_declaration, expression_no_declaration, fresh_no_declaration, end_no_declaration)
+-- of a text, or of nothing, nothing is whole
+pub fresh_never_behind : (s : Sort) (q : State) → stands s (on_child s q (outcome_of state.Fresh)) ≡ true → ⊥
+unfolding outcome_of
+fresh_never_behind s q h = unfinished_never s q h
 
-pub ruleset typed = (statement_no_type, declarator_no_type, expression_no_type, fresh_no_type, end_no_type)
+pub end_never_behind : (s : Sort) (q : State) → stands s (on_child s q (outcome_of state.UnitEnd)) ≡ true → ⊥
+unfolding outcome_of
+end_never_behind s q h = unfinished_never s q h
 
-pub ruleset shaped = (statement_no_declares, expression_no_declares, declaration_no_declares, fresh_no_declares, end_no_declares)
+pub ruleset after_expression = (expression_no_stated, expression_no_declaration, expression_no_type, expression_no_declares, unfinished_never)
 
-pub ruleset stated = (declarator_no_stated, expression_no_stated, declaration_no_stated, fresh_no_stated, end_no_stated)
+pub ruleset after_statement = (statement_no_value, statement_no_declaration, statement_no_type, statement_no_declares, unfinished_never)
 
-pub ruleset unfinished = (unfinished_never)
+pub ruleset after_declarator = (declarator_no_value, declarator_no_stated, declarator_no_declaration, declarator_no_type, unfinished_never)
+
+pub ruleset after_declaration = (declaration_no_stated, declaration_no_declares, unfinished_never)
+
+pub ruleset with_child = (fresh_never_behind, end_never_behind)

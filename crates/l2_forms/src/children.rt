@@ -76,37 +76,6 @@ fn behind_braces(
     with_initialiser(alloc, sort, form, value)
 }
 
-/// Behind an expression, or an initialiser in braces.
-#[tactic(auto, using(crate::proofs::Links::value))]
-fn behind_value(
-    alloc: Global,
-    sort: Sort,
-    form: Form,
-    place: Sort,
-    inner: Form,
-) -> Result<Form, FormError>
-    requires outer { Tied sort form }
-    requires may { may sort form ≡ true }
-    requires inner { may place inner ≡ true }
-    requires place { opened sort (state_of form) ≡ place }
-    requires standing { may_stand place (state_of inner) ≡ true }
-    requires whole { outcome_of (state_of inner) ≡ Outcome.Value }
-    requires stands { may_stand sort (behind_child sort (state_of form) Outcome.Value) ≡ true }
-    ensures state { IfOk result (λ f. state_of f ≡ behind_child sort (state_of form) Outcome.Value) }
-    ensures tree { IfOk result (λ f. tree_of sort f ≡ then_child (tree_of sort form) (tree_of place inner)) }
-    ensures may { IfOk result (λ f. may sort f ≡ true) }
-{
-    match inner {
-        Form::Expression(f) => behind_expression(alloc, sort, form, place, f),
-        Form::Declaration(f) => behind_braces(alloc, sort, form, place, f),
-        Form::Statement(_) => unreachable!(),
-        Form::Declarator(_) => unreachable!(),
-        Form::Fresh => unreachable!(),
-        Form::Unit(_) => unreachable!(),
-        Form::Whole(_) => unreachable!(),
-    }
-}
-
 /// Behind a whole statement.
 #[tactic(auto, using(crate::proofs::Links::statement))]
 fn behind_stmt(
@@ -128,37 +97,6 @@ fn behind_stmt(
 {
     let body = statements::stmt_of(place, inner)?;
     with_stmt(alloc, sort, form, body, shut)
-}
-
-/// Behind what is a whole statement.
-#[tactic(auto, using(crate::proofs::Links::stated))]
-fn behind_statement(
-    alloc: Global,
-    sort: Sort,
-    form: Form,
-    place: Sort,
-    inner: Form,
-    shut: bool,
-) -> Result<Form, FormError>
-    requires outer { Tied sort form }
-    requires may { may sort form ≡ true }
-    requires inner { may place inner ≡ true }
-    requires place { opened sort (state_of form) ≡ place }
-    requires whole { outcome_of (state_of inner) ≡ (Outcome.Stated shut) }
-    requires stands { may_stand sort (behind_child sort (state_of form) (Outcome.Stated shut)) ≡ true }
-    ensures state { IfOk result (λ f. state_of f ≡ behind_child sort (state_of form) (Outcome.Stated shut)) }
-    ensures tree { IfOk result (λ f. tree_of sort f ≡ then_child (tree_of sort form) (tree_of place inner)) }
-    ensures may { IfOk result (λ f. may sort f ≡ true) }
-{
-    match inner {
-        Form::Statement(f) => behind_stmt(alloc, sort, form, place, f, shut),
-        Form::Expression(_) => unreachable!(),
-        Form::Declarator(_) => unreachable!(),
-        Form::Declaration(_) => unreachable!(),
-        Form::Fresh => unreachable!(),
-        Form::Unit(_) => unreachable!(),
-        Form::Whole(_) => unreachable!(),
-    }
 }
 
 fn is_external(sort: Sort) -> bool
@@ -220,34 +158,6 @@ fn behind_inner_declaration(
     with_declaration(sort, form, place, declaration)
 }
 
-/// Behind a whole declaration, a function or a typedef.
-#[tactic(auto, using(crate::proofs::Links::declared))]
-fn behind_declaration(sort: Sort, form: Form, place: Sort, inner: Form) -> Result<Form, FormError>
-    requires outer { Tied sort form }
-    requires may { may sort form ≡ true }
-    requires inner { may place inner ≡ true }
-    requires place { opened sort (state_of form) ≡ place }
-    requires whole { outcome_of (state_of inner) ≡ Outcome.Declaration }
-    requires stands { may_stand sort (behind_child sort (state_of form) Outcome.Declaration) ≡ true }
-    ensures state { IfOk result (λ f. state_of f ≡ behind_child sort (state_of form) Outcome.Declaration) }
-    ensures tree { IfOk result (λ f. tree_of sort f ≡ then_child (tree_of sort form) (tree_of place inner)) }
-    ensures may { IfOk result (λ f. may sort f ≡ true) }
-{
-    match inner {
-        Form::Declaration(f) => if is_external(place) {
-            behind_external(sort, form, place, f)
-        } else {
-            behind_inner_declaration(sort, form, place, f)
-        },
-        Form::Expression(_) => unreachable!(),
-        Form::Statement(_) => unreachable!(),
-        Form::Declarator(_) => unreachable!(),
-        Form::Fresh => unreachable!(),
-        Form::Unit(_) => unreachable!(),
-        Form::Whole(_) => unreachable!(),
-    }
-}
-
 /// Behind a parameter, or the name of a type.
 #[tactic(auto, using(crate::proofs::Links::parameter))]
 fn behind_typed(
@@ -273,38 +183,6 @@ fn behind_typed(
     with_parameter(alloc, sort, form, parameter, named, void)
 }
 
-/// Behind what is a parameter, or the name of a type.
-#[tactic(auto, using(crate::proofs::Links::typed))]
-fn behind_parameter(
-    alloc: Global,
-    sort: Sort,
-    form: Form,
-    place: Sort,
-    inner: Form,
-    named: bool,
-    void: bool,
-) -> Result<Form, FormError>
-    requires outer { Tied sort form }
-    requires may { may sort form ≡ true }
-    requires inner { may place inner ≡ true }
-    requires place { opened sort (state_of form) ≡ place }
-    requires whole { outcome_of (state_of inner) ≡ (Outcome.Specified named void) }
-    requires stands { may_stand sort (behind_child sort (state_of form) (Outcome.Specified named void)) ≡ true }
-    ensures state { IfOk result (λ f. state_of f ≡ behind_child sort (state_of form) (Outcome.Specified named void)) }
-    ensures tree { IfOk result (λ f. tree_of sort f ≡ then_child (tree_of sort form) (tree_of place inner)) }
-    ensures may { IfOk result (λ f. may sort f ≡ true) }
-{
-    match inner {
-        Form::Declaration(f) => behind_typed(alloc, sort, form, place, f, named, void),
-        Form::Expression(_) => unreachable!(),
-        Form::Statement(_) => unreachable!(),
-        Form::Declarator(_) => unreachable!(),
-        Form::Fresh => unreachable!(),
-        Form::Unit(_) => unreachable!(),
-        Form::Whole(_) => unreachable!(),
-    }
-}
-
 /// Behind a declarator.
 fn behind_shaped(
     alloc: Global,
@@ -327,39 +205,153 @@ fn behind_shaped(
     with_declarator(sort, form, declarator, shape)
 }
 
-/// Behind what is a declarator.
-#[tactic(auto, using(crate::proofs::Links::shaped))]
-fn behind_declarator(
+/// Behind a whole expression.
+#[tactic(auto, using(crate::proofs::Links::after_expression))]
+fn after_expression(
     alloc: Global,
     sort: Sort,
     form: Form,
     place: Sort,
-    inner: Form,
-    shape: Shape,
+    inner: ExprForm,
+    state: State,
 ) -> Result<Form, FormError>
     requires outer { Tied sort form }
     requires may { may sort form ≡ true }
-    requires inner { may place inner ≡ true }
     requires place { opened sort (state_of form) ≡ place }
-    requires whole { outcome_of (state_of inner) ≡ (Outcome.Declares shape) }
-    requires stands { may_stand sort (behind_child sort (state_of form) (Outcome.Declares shape)) ≡ true }
-    ensures state { IfOk result (λ f. state_of f ≡ behind_child sort (state_of form) (Outcome.Declares shape)) }
-    ensures tree { IfOk result (λ f. tree_of sort f ≡ then_child (tree_of sort form) (tree_of place inner)) }
+    requires state { expression_state inner ≡ state }
+    requires standing { may_stand place state ≡ true }
+    requires stands { may_stand sort (behind_child sort (state_of form) (outcome_of state)) ≡ true }
+    ensures state { IfOk result (λ f. state_of f ≡ behind_child sort (state_of form) (outcome_of state)) }
+    ensures tree { IfOk result (λ f. tree_of sort f ≡ then_child (tree_of sort form) (expression_tree place inner)) }
     ensures may { IfOk result (λ f. may sort f ≡ true) }
 {
-    match inner {
-        Form::Declarator(f) => behind_shaped(alloc, sort, form, place, f, shape),
-        Form::Expression(_) => unreachable!(),
-        Form::Statement(_) => unreachable!(),
-        Form::Declaration(_) => unreachable!(),
-        Form::Fresh => unreachable!(),
-        Form::Unit(_) => unreachable!(),
-        Form::Whole(_) => unreachable!(),
+    match outcome(state) {
+        Outcome::Value => behind_expression(alloc, sort, form, place, inner),
+        Outcome::Stated(_) => unreachable!(),
+        Outcome::Declaration => unreachable!(),
+        Outcome::Specified(_, _) => unreachable!(),
+        Outcome::Declares(_) => unreachable!(),
+        Outcome::Unfinished => unreachable!(),
+    }
+}
+
+/// Behind a whole statement.
+#[tactic(auto, using(crate::proofs::Links::after_statement))]
+fn after_statement(
+    alloc: Global,
+    sort: Sort,
+    form: Form,
+    place: Sort,
+    inner: StatementForm,
+    state: State,
+) -> Result<Form, FormError>
+    requires outer { Tied sort form }
+    requires may { may sort form ≡ true }
+    requires place { opened sort (state_of form) ≡ place }
+    requires state { statement_state inner ≡ state }
+    requires stands { may_stand sort (behind_child sort (state_of form) (outcome_of state)) ≡ true }
+    ensures state { IfOk result (λ f. state_of f ≡ behind_child sort (state_of form) (outcome_of state)) }
+    ensures tree { IfOk result (λ f. tree_of sort f ≡ then_child (tree_of sort form) (statement_tree place inner)) }
+    ensures may { IfOk result (λ f. may sort f ≡ true) }
+{
+    match outcome(state) {
+        Outcome::Stated(shut) => behind_stmt(alloc, sort, form, place, inner, shut),
+        Outcome::Value => unreachable!(),
+        Outcome::Declaration => unreachable!(),
+        Outcome::Specified(_, _) => unreachable!(),
+        Outcome::Declares(_) => unreachable!(),
+        Outcome::Unfinished => unreachable!(),
+    }
+}
+
+/// Behind a whole declarator.
+#[tactic(auto, using(crate::proofs::Links::after_declarator))]
+fn after_declarator(
+    alloc: Global,
+    sort: Sort,
+    form: Form,
+    place: Sort,
+    inner: DeclaratorForm,
+    state: State,
+) -> Result<Form, FormError>
+    requires outer { Tied sort form }
+    requires may { may sort form ≡ true }
+    requires place { opened sort (state_of form) ≡ place }
+    requires state { declarator_state inner ≡ state }
+    requires stands { may_stand sort (behind_child sort (state_of form) (outcome_of state)) ≡ true }
+    ensures state { IfOk result (λ f. state_of f ≡ behind_child sort (state_of form) (outcome_of state)) }
+    ensures tree { IfOk result (λ f. tree_of sort f ≡ then_child (tree_of sort form) (declarator_form_tree place inner)) }
+    ensures may { IfOk result (λ f. may sort f ≡ true) }
+{
+    match outcome(state) {
+        Outcome::Declares(shape) => behind_shaped(alloc, sort, form, place, inner, shape),
+        Outcome::Value => unreachable!(),
+        Outcome::Stated(_) => unreachable!(),
+        Outcome::Declaration => unreachable!(),
+        Outcome::Specified(_, _) => unreachable!(),
+        Outcome::Unfinished => unreachable!(),
+    }
+}
+
+/// Behind a whole declaration, a function or a typedef.
+fn behind_declaration(
+    sort: Sort,
+    form: Form,
+    place: Sort,
+    inner: DeclarationForm,
+) -> Result<Form, FormError>
+    requires outer { Tied sort form }
+    requires may { may sort form ≡ true }
+    requires inner { may_declare place inner ≡ true }
+    requires place { opened sort (state_of form) ≡ place }
+    requires whole { outcome_of (declaration_state inner) ≡ Outcome.Declaration }
+    requires stands { may_stand sort (behind_child sort (state_of form) Outcome.Declaration) ≡ true }
+    ensures state { IfOk result (λ f. state_of f ≡ behind_child sort (state_of form) Outcome.Declaration) }
+    ensures tree { IfOk result (λ f. tree_of sort f ≡ then_child (tree_of sort form) (declaration_form_tree place inner)) }
+    ensures may { IfOk result (λ f. may sort f ≡ true) }
+{
+    if is_external(place) {
+        behind_external(sort, form, place, inner)
+    } else {
+        behind_inner_declaration(sort, form, place, inner)
+    }
+}
+
+/// Behind a whole declaration, parameter or initialiser in braces.
+#[tactic(auto, using(crate::proofs::Links::after_declaration))]
+fn after_declaration(
+    alloc: Global,
+    sort: Sort,
+    form: Form,
+    place: Sort,
+    inner: DeclarationForm,
+    state: State,
+) -> Result<Form, FormError>
+    requires outer { Tied sort form }
+    requires may { may sort form ≡ true }
+    requires inner { may_declare place inner ≡ true }
+    requires place { opened sort (state_of form) ≡ place }
+    requires state { declaration_state inner ≡ state }
+    requires standing { may_stand place state ≡ true }
+    requires stands { may_stand sort (behind_child sort (state_of form) (outcome_of state)) ≡ true }
+    ensures state { IfOk result (λ f. state_of f ≡ behind_child sort (state_of form) (outcome_of state)) }
+    ensures tree { IfOk result (λ f. tree_of sort f ≡ then_child (tree_of sort form) (declaration_form_tree place inner)) }
+    ensures may { IfOk result (λ f. may sort f ≡ true) }
+{
+    match outcome(state) {
+        Outcome::Value => behind_braces(alloc, sort, form, place, inner),
+        Outcome::Declaration => behind_declaration(sort, form, place, inner),
+        Outcome::Specified(named, void) => behind_typed(
+            alloc, sort, form, place, inner, named, void,
+        ),
+        Outcome::Stated(_) => unreachable!(),
+        Outcome::Declares(_) => unreachable!(),
+        Outcome::Unfinished => unreachable!(),
     }
 }
 
 /// A form behind a whole construct that stands in it; `state` is that of the inner one.
-#[tactic(auto, using(crate::proofs::Links::unfinished))]
+#[tactic(auto, using(crate::proofs::Links::with_child))]
 pub fn with_child(
     alloc: Global,
     sort: Sort,
@@ -379,14 +371,13 @@ pub fn with_child(
     ensures tree { IfOk result (λ f. tree_of sort f ≡ then_child (tree_of sort form) (tree_of place inner)) }
     ensures may { IfOk result (λ f. may sort f ≡ true) }
 {
-    match outcome(state) {
-        Outcome::Value => behind_value(alloc, sort, form, place, inner),
-        Outcome::Stated(shut) => behind_statement(alloc, sort, form, place, inner, shut),
-        Outcome::Declaration => behind_declaration(sort, form, place, inner),
-        Outcome::Specified(named, void) => behind_parameter(
-            alloc, sort, form, place, inner, named, void,
-        ),
-        Outcome::Declares(shape) => behind_declarator(alloc, sort, form, place, inner, shape),
-        Outcome::Unfinished => unreachable!(),
+    match inner {
+        Form::Expression(f) => after_expression(alloc, sort, form, place, f, state),
+        Form::Statement(f) => after_statement(alloc, sort, form, place, f, state),
+        Form::Declarator(f) => after_declarator(alloc, sort, form, place, f, state),
+        Form::Declaration(f) => after_declaration(alloc, sort, form, place, f, state),
+        Form::Fresh => unreachable!(),
+        Form::Unit(_) => unreachable!(),
+        Form::Whole(_) => unreachable!(),
     }
 }
