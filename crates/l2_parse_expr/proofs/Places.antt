@@ -6,7 +6,7 @@ use Rattle.l2_syntax.specs.declared.refusal.Rule.TheVariants as rule
 use Rattle.l2_syntax.specs.declared.refusal.Refusal.{Refusal}
 use Rattle.l2_grammar.specs.declared.states.Level.{Level}
 use Rattle.l2_grammar.specs.Trees.{Seen, Tree}
-use Rattle.l2_grammar.specs.Expressions.{IsExpression, EndsBefore, NestsAt, BreaksAt, sort_at}
+use Rattle.l2_grammar.specs.Expressions.{EndsBefore, NestsAt, BreaksAt, sort_at}
 use Rattle.l2_reader.specs.Parts.{seen}
 use Rattle.l2_reader.specs.Turns.{seen_from}
 use Rattle.l2_lex.specs.Lexing.{Lexed}
@@ -57,6 +57,3 @@ plain_front (u ∷ us) rest h = (h.0, plain_front us rest h.1)
 pub tree_keeps : (l : Level) (n : ℕ) (ts ps : List Token) (at : ℕ) (r : Tree) (rest : List Seen) → map seen ps ≡ kept ts → EndsBefore l n (seen_from at ps) r rest → Keeps r
 tree_keeps l n ts ps at r rest e h =
     (keeps r [] (subst AllPlain (sym h.spells.spelled) (plain_front h.used rest (subst AllPlain (sym (from_is ts ps at e) ∙ h.parts) (kept_plain (drop at ts)))))).0
-
-pub whole_at : (l : Level) (n : ℕ) (ts : List Seen) (r : Tree) (rest : List Seen) → EndsBefore l n ts r rest → IsExpression l r
-whole_at l n ts r rest h = h.spells.whole
