@@ -1,23 +1,17 @@
 -- Folding parts: what holds of a whole construct holds of what has been read of it, and is so behind each part.
-use Rattle.std.proofs.Common.{◌≡◌, ℕ, ◌+◌, ◌<◌, length, drop, get_or, List, [], ◌∷◌, Bool, true, false, not, refl, ap, sym, ◌∙◌, subst}
+use Rattle.std.proofs.Common.{◌≡◌, ℕ, ◌+◌, ◌<◌, length, drop, get_or, List, [], ◌∷◌, true, refl, ap, sym, ◌∙◌, subst}
 use Rattle.std.proofs.lemmas.List.{at_drop_more}
 use Rattle.std.specs.declared.vec.Vec.{Vec}
 use Rattle.std.specs.declared.alloc.Global.{Global}
 use Rattle.l2_grammar.specs.declared.states.Sort.{Sort}
 use Rattle.l2_grammar.specs.declared.states.State.{State}
-use Rattle.l2_grammar.specs.declared.states.State.TheVariants as state
-use Rattle.l2_grammar.specs.Networks.{on_token}
-use Rattle.l2_grammar.specs.Nesting.{stands, on_child, opens, outcome as outcome_of, is_unit}
-use Rattle.l2_grammar.specs.Reader.{takes}
-use Rattle.l2_grammar.specs.Trees.{Seen, Tree, begin, token, child, sort as sort_of, state as state_in, Fits}
-use Rattle.l2_syntax.specs.declared.token.Token.{Token}
+use Rattle.l2_grammar.specs.Nesting.{stands, on_child, opens, outcome as outcome_of}
+use Rattle.l2_grammar.specs.Trees.{Tree, begin, token, child, sort as sort_of, state as state_in, Fits}
 use Rattle.l2_reader.specs.declared.syntax.Syntax as syntax
 use Rattle.l2_reader.specs.declared.syntax.Syntax.{Syntax}
-use Rattle.l2_reader.specs.Parts.{seen, with_part, parts_onto}
+use Rattle.l2_reader.specs.Parts.{with_part, parts_onto}
 use Rattle.l2_reader.proofs.Parts.{with_part-Construct}
-use Rattle.l2_tree.specs.Spelling.{plain}
-use Rattle.l2_forms.specs.Forms.{state_of, tree_of, tree, Tied, Ready, Keeps}
-use Rattle.l2_forms.specs.declared.form.Form.{Form}
+use Rattle.l2_forms.specs.Forms.{tree, Ready, Keeps}
 use Rattle.l2_forms.specs.declared.form.Construct.{Construct}
 use Rattle.l2_forms.proofs.Links.{unfinished_never}
 
@@ -50,10 +44,6 @@ pub next_keeps : (r whole : Tree) (xs : List Syntax) (i : ℕ) (x : Syntax) → 
     Keeps whole → Keeps (with_part r x)
 next_keeps r whole xs i x e l at f = keeps_before (with_part r x) (drop (i + 1) xs) (subst Keeps (sym (next_onto r whole xs i x e l at)) f)
 
-pub next_tree : (q r whole : Tree) (xs : List Syntax) (i : ℕ) (x : Syntax) → parts_onto r (drop i xs) ≡ whole → i < length xs → x ≡ get_or xs i x →
-    q ≡ with_part r x → parts_onto q (drop (i + 1) xs) ≡ whole
-next_tree q r whole xs i x e l at h = ap (λ y. parts_onto y (drop (i + 1) xs)) h ∙ next_onto r whole xs i x e l at
-
 -- ---- a construct among the parts
 
 pub part_tree : (r : Tree) (x : Syntax) (s : Sort) (all : Vec Syntax Global) (xs : List Syntax) (b : Tree) → x ≡ syntax.Construct s all → xs ≡ all.items →
@@ -81,11 +71,6 @@ inner_keeps r x s all xs e d f = go (subst Keeps (sym (part_tree r x s all xs (p
 pub kept_state : (c : Construct) → Ready c → state_in (tree c) ≡ c.state
 kept_state c r = r.tied.stated ∙ r.formed
 
-pub token_takes : (c : Construct) (t : Token) → Ready c → Fits (token (tree c) (seen t)) → takes c.sort c.state t.kind ≡ true
-token_takes c t r f =
-    subst (λ s. takes s c.state t.kind ≡ true) r.tied.sorted
-    (subst (λ q. takes (sort_of (tree c)) q t.kind ≡ true) (kept_state c r) f.1)
-
 pub child_place : (a b : Construct) → Ready a → Ready b → Fits (child (tree a) (tree b)) → opens a.sort a.state ≡ b.sort
 child_place a b r q (f, g, place, h) = sym (ap (λ s. opens s a.state) r.tied.sorted) ∙ sym (ap (opens (sort_of (tree a))) (kept_state a r)) ∙ place ∙ q.tied.sorted
 
@@ -106,18 +91,3 @@ child_standing a b r q (f, g, place, h) =
     subst (λ p. stands b.sort p ≡ true) (kept_state b q)
     (subst (λ s. stands s (state_in (tree b)) ≡ true) q.tied.sorted
     (inner_stands (sort_of (tree a)) (state_in (tree a)) (tree b) g h))
-
--- ---- behind a part
-
-pub tied_token : (s : Sort) (f g : Form) (t : Seen) → Tied s f → state_of g ≡ on_token s (state_of f) t.kind → tree_of s g ≡ token (tree_of s f) t → Tied s g
-tied_token s f g t a h e = record {
-  sorted = ap sort_of e ∙ a.sorted;
-  stated = ap state_in e ∙ ap (λ z. on_token z (state_in (tree_of s f)) t.kind) a.sorted ∙ ap (λ q. on_token s q t.kind) a.stated ∙ sym h;
-}
-
-pub tied_child : (s z : Sort) (f g h : Form) → Tied s f → Tied z h → state_of g ≡ on_child s (state_of f) (outcome_of (state_of h)) → tree_of s g ≡ child (tree_of s f) (tree_of z h) → Tied s g
-tied_child s z f g h a b o e = record {
-  sorted = ap sort_of e ∙ a.sorted;
-  stated = ap state_in e ∙ ap (λ y. on_child y (state_in (tree_of s f)) (outcome_of (state_in (tree_of z h)))) a.sorted
-      ∙ ap (λ q. on_child s q (outcome_of (state_in (tree_of z h)))) a.stated ∙ ap (λ q. on_child s (state_of f) (outcome_of q)) b.stated ∙ sym o;
-}

@@ -396,6 +396,18 @@ pub ruleset statement = (statement_whole)
 pub ruleset parameter = (parameter_place)
 
 -- of a text, or of nothing, nothing is whole
+abbrev is_unfinished : Outcome → Bool
+is_unfinished outcome.Unfinished = true
+is_unfinished o = false
+
+pub fresh_no_value : outcome_of state.Fresh ≡ outcome.Value → ⊥
+unfolding outcome_of
+fresh_no_value h = let g : true ≡ false = ap is_unfinished h in cc
+
+pub end_no_value : outcome_of state.UnitEnd ≡ outcome.Value → ⊥
+unfolding outcome_of
+end_no_value h = let g : true ≡ false = ap is_unfinished h in cc
+
 pub fresh_never_behind : (s : Sort) (q : State) → stands s (on_child s q (outcome_of state.Fresh)) ≡ true → ⊥
 unfolding outcome_of
 fresh_never_behind s q h = unfinished_never s q h
