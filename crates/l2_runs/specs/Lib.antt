@@ -1,4 +1,6 @@
+pub mod Numbers
 pub mod Store
+pub mod Fits
 pub mod Runs
 pub mod Loops
 pub mod Operators
