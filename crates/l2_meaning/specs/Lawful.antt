@@ -1,5 +1,5 @@
 -- Programs whose trees are typed, name what is in scope, and have what the lists say.
-use Rattle.std.specs.Prelude.{◌≡◌, ℕ, zero, suc, ◌+◌, ◌<◌, ◌≤◌, ◌==◌, Bool, true, false, ◌&&◌, List, [], ◌∷◌, ◌++◌, length, map, Option, Some, None, ◌⊎◌}
+use Rattle.std.specs.Prelude.{◌≡◌, ℕ, suc, ◌+◌, ◌<◌, ◌≤◌, ◌==◌, Bool, true, false, ◌&&◌, List, [], ◌∷◌, ◌++◌, length, map, Option, Some, None, ◌⊎◌}
 use Rattle.l2_bits.specs.declared.types.Ty.{Ty}
 use Rattle.l2_bits.specs.Types.{int_type}
 use Rattle.l2_runs.specs.declared.cells.CellType.{CellType}
@@ -14,7 +14,7 @@ use Rattle.l2_program.specs.declared.program.CheckInfo.{CheckInfo}
 use Rattle.l2_program.specs.declared.program.StaticValue.{StaticValue}
 use Rattle.l2_program.specs.Checked.{LvalueTree, Object, TypedTree, Constant, Choice, Read, Unary, Binary, Convert, Assign, Assert, CheckedTree, Block, Declare, Static, Initialise, Label, Evaluate, If, IfElse, While, Return, CheckedTrees, none, more}
 use Rattle.l2_program.specs.Types.{type_of, is_computing, is_arithmetic}
-use Rattle.l2_program.specs.Names.{lvalue_names, declared_in, loops_in, checks_in}
+use Rattle.l2_program.specs.Names.{declared_in, loops_in, checks_in}
 use Rattle.l2_program.specs.Programs.{ProgramTree, FunctionTree}
 use Rattle.l2_meaning.specs.Execution.{cells_of, main_among}
 
@@ -224,3 +224,7 @@ pub record IsLawful (p : ProgramTree) : Type 0 where
   pub have_cells : HaveCells p.objects
   pub few_cells : cell_count p.objects ≤ 65536
   pub statics : HoldStatics (cells_of p) 1 p.objects p.static_values
+
+-- one of the program's checks
+abbrev pub IsCheckOf : ProgramTree → ℕ → Type 0
+IsCheckOf p c = IsSome (at_number p.checks c)

@@ -1,5 +1,5 @@
 -- Stores whose cells hold values of their types.
-use Rattle.std.specs.Prelude.{ℕ, ◌<◌, ◌≤◌, List, [], ◌∷◌, length}
+use Rattle.std.specs.Prelude.{ℕ, zero, suc, ◌<◌, ◌≤◌, List, [], ◌∷◌, length}
 use Rattle.l2_bits.specs.Values.{IsValue}
 use Rattle.l2_runs.specs.declared.cells.CellType.{CellType}
 use Rattle.l2_runs.specs.declared.cells.CellType.TheVariants.{Integer, Pointer}
@@ -28,6 +28,12 @@ CellsFit layout [] [] = Unit {0}
 CellsFit layout [] (v ∷ vs) = ⊥
 CellsFit layout (t ∷ types) [] = ⊥
 CellsFit layout (t ∷ types) (v ∷ vs) = CellFits layout t v × CellsFit layout types vs
+
+-- a value fits the cell at an offset, where there is one
+abbrev pub FitsAt : Layout → List CellType → ℕ → CellValue → Type 0
+FitsAt layout [] f v = Unit {0}
+FitsAt layout (t ∷ types) zero v = CellFits layout t v
+FitsAt layout (t ∷ types) (suc f) v = FitsAt layout types f v
 
 -- each object has its cells, and each holds a value of its type
 pub record StoreFits (layout : Layout) (store : Store) : Type 0 where

@@ -3,4 +3,5 @@ pub mod Store
 pub mod Fits
 pub mod Runs
 pub mod Loops
+pub mod Keeps
 pub mod Operators

@@ -2,7 +2,7 @@
 use Rattle.std.specs.Prelude.{ℕ, ℤ, Bool, true, false, ◌||◌, ◌==◌, List, [], ◌∷◌}
 use Rattle.l2_runs.specs.declared.cells.CellValue.{CellValue}
 use Rattle.l2_runs.specs.declared.outcome.Outcome.{Outcome}
-use Rattle.l2_runs.specs.declared.outcome.Outcome.TheVariants.{Ended, Stopped, Broken, OutOfChoices, OutOfTurns}
+use Rattle.l2_runs.specs.declared.outcome.Outcome.TheVariants.{Stopped, Broken, OutOfChoices}
 use Rattle.l2_runs.specs.Store.{Store, Address, cell_at, with_cell, with_live}
 
 -- the store, the choices that are left, the turns that are left to a real run, and a short run's arrivals so far
