@@ -16,7 +16,7 @@ use Rattle.l2_program.specs.declared.program.StaticValue.{StaticValue}
 use Rattle.l2_program.specs.Programs.{ProgramTree, FunctionTree}
 use Rattle.l2_meaning.specs.Meaning.{Calls}
 use Rattle.l2_meaning.specs.Execution.{first_cell, value_in, static_object, dead_object, first_objects, first_store, known_cells, cells_of, calls_of, setting_of, declare_all, enter, run_program, report, exec}
-use Rattle.l2_meaning.specs.Lawful.{Context, HoldStart, HoldObject, HoldStatics, IsLawful, context_of, IsSome, IsCheckOf, IsTypedStatement}
+use Rattle.l2_meaning.specs.Lawful.{Listing, HoldStart, HoldObject, HoldStatics, IsLawful, IsSome, IsCheckOf, IsTypedStatement, StatementHasChecks}
 use Rattle.l2_meaning.proofs.Numbers.{zero_value}
 use Rattle.l2_meaning.proofs.Typed.{here, declare_keep, act_keep}
 
@@ -50,21 +50,21 @@ first_fits p h = record { cells = at } where
   at zero = tt
   at (suc i) = start_fits (cells_of p) 1 p.objects p.static_values h.statics i
 
-module _ (g : Context) (limit : Limit) (tests : Tests) (calls : Calls) (back : LimitKeeps g.cells (λ c. IsSome (at_number g.checks c)) limit) where
-  declare_all_keep : (ns : List ℕ) → Keeps g.cells (λ c. IsSome (at_number g.checks c)) Anything (declare_all (here g limit tests true calls) ns)
-  declare_all_keep [] = done_keep g.cells (λ c. IsSome (at_number g.checks c)) tt tt
-  declare_all_keep (n ∷ ns) = then_keep g.cells (λ c. IsSome (at_number g.checks c)) (declare_keep g limit tests true calls n) (λ u w. declare_all_keep ns)
+module _ (cells : Layout) (g : Listing) (limit : Limit) (tests : Tests) (calls : Calls) (back : LimitKeeps cells (λ c. IsSome (at_number g.checks c)) limit) where
+  declare_all_keep : (ns : List ℕ) → Keeps cells (λ c. IsSome (at_number g.checks c)) Anything (declare_all (here cells g limit tests true calls) ns)
+  declare_all_keep [] = done_keep cells (λ c. IsSome (at_number g.checks c)) tt tt
+  declare_all_keep (n ∷ ns) = then_keep cells (λ c. IsSome (at_number g.checks c)) (declare_keep cells g limit tests true calls n) (λ u w. declare_all_keep ns)
 
-  enter_keep : (f : FunctionTree) → IsTypedStatement g f.body → Keeps g.cells (λ c. IsSome (at_number g.checks c)) Anything (enter (here g limit tests true calls) (Some f))
-  enter_keep f h =
-      then_keep g.cells (λ c. IsSome (at_number g.checks c)) (declare_all_keep f.parameters)
-      (λ u w. then_keep g.cells (λ c. IsSome (at_number g.checks c)) (act_keep g limit tests true calls back true f.body h) (λ e k. done_keep g.cells (λ c. IsSome (at_number g.checks c)) tt tt))
+  enter_keep : (f : FunctionTree) → IsTypedStatement cells f.result f.body → StatementHasChecks g f.body → Keeps cells (λ c. IsSome (at_number g.checks c)) Anything (enter (here cells g limit tests true calls) (Some f))
+  enter_keep f h c =
+      then_keep cells (λ c. IsSome (at_number g.checks c)) (declare_all_keep f.parameters)
+      (λ u w. then_keep cells (λ c. IsSome (at_number g.checks c)) (act_keep cells g limit tests true calls f.result back true f.body h c) (λ e k. done_keep cells (λ c. IsSome (at_number g.checks c)) tt tt))
 
 pub run_keep : (p : ProgramTree) → IsLawful p → (limit : Limit) (tests : Tests) → LimitKeeps (cells_of p) (IsCheckOf p) limit → Keeps (cells_of p) (IsCheckOf p) Anything (run_program p limit tests)
 run_keep p h limit tests back =
+    let main = h.functions h.main h.main_function h.has_main in
     subst (λ (f : Option FunctionTree). Keeps (cells_of p) (IsCheckOf p) Anything (enter (setting_of p limit tests) f)) (sym h.is_main)
-    (enter_keep (context_of p h.overflow (h.main == h.main) h.main_function.result) limit tests (calls_of p limit tests (length p.functions)) back h.main_function
-    (h.functions h.main h.main_function h.has_main).typed)
+    (enter_keep (cells_of p) (record { checks = p.checks; is_reached = h.main == h.main; overflow = h.overflow }) limit tests (calls_of p limit tests (length p.functions)) back h.main_function main.typed main.checks)
 
 pub run_law : (p : ProgramTree) → IsLawful p → (limit : Limit) (tests : Tests) → LimitKeeps (cells_of p) (IsCheckOf p) limit → (s : State) → StoreFits (cells_of p) s.store → ResultFits (cells_of p) (IsCheckOf p) Anything (run_program p limit tests s)
 run_law p h limit tests back s k = (run_keep p h limit tests back).by s k

@@ -24,29 +24,6 @@ IsIn n (m ∷ ms) = (n ≡ m) ⊎ IsIn n ms
 
 -- ---- types
 
--- what a function's tree may name: the program's objects and checks; what it returns; and whether `main` reaches it, so that
--- its checks are listed, and whether those of overflow are
-pub record Context : Type 0 where
-  pub cells : Layout
-  pub is_static : ℕ → Bool
-  pub checks : List CheckInfo
-  pub result : List CellType
-  pub is_reached : Bool
-  pub overflow : Bool
-
-abbrev pub IsOfKind : Kind → Option CheckInfo → Type 0
-IsOfKind kind None = ⊥
-IsOfKind kind (Some check) = check.kind ≡ kind
-
--- the number of a check of this kind where it is listed, else 0
-abbrev pub HasCheck : Context → Bool → Kind → ℕ → Type 0
-HasCheck g true kind c = IsOfKind kind (at_number g.checks c)
-HasCheck g false kind c = c ≡ 0
-
--- an operator that computes on a type with a sign may overflow
-abbrev pub lists_overflow : Context → Bool → Ty → Bool
-lists_overflow g computes ty = g.is_reached && g.overflow && computes && ty.signed
-
 abbrev pub IsScalar : List CellType → Type 0
 IsScalar [] = ⊥
 IsScalar (t ∷ []) = Unit {0}
@@ -59,56 +36,104 @@ IsInteger (Pointer ∷ []) = ⊥
 IsInteger (t ∷ u ∷ types) = ⊥
 
 -- an lvalue of these cells
-abbrev pub IsTypedLvalue : Context → List CellType → LvalueTree → Type 0
-IsTypedLvalue g types (Object n) = g.cells n ≡ types
+abbrev pub IsTypedLvalue : Layout → List CellType → LvalueTree → Type 0
+IsTypedLvalue cells types (Object n) = cells n ≡ types
 
-abbrev pub IsTyped : Context → TypedTree → Type 0
-IsTyped g (Constant ty v) = CellFits g.cells ty v
-IsTyped g (Choice ty) = Unit {0}
-IsTyped g (Read ty l) = IsTypedLvalue g (ty ∷ []) l
-IsTyped g (Unary op ty c e) = IsTyped g e × (type_of e ≡ Integer ty ∷ []) × HasCheck g (lists_overflow g (is_computing op) ty) Overflow c
-IsTyped g (Binary op ty c x y) =
-    IsTyped g x × (type_of x ≡ Integer ty ∷ []) × IsTyped g y × (type_of y ≡ Integer ty ∷ []) ×
-    HasCheck g (lists_overflow g (is_arithmetic op) ty) Overflow c
-IsTyped g (Convert ty e) = IsTyped g e × IsInteger (type_of e)
-IsTyped g (Assign ty l e) = IsTypedLvalue g (ty ∷ []) l × IsTyped g e × (type_of e ≡ ty ∷ [])
-IsTyped g (Assert c e) = IsTyped g e × IsScalar (type_of e) × HasCheck g g.is_reached Assertion c
+-- operands are of the types that their operators take
+abbrev pub IsTyped : Layout → TypedTree → Type 0
+IsTyped cells (Constant ty v) = CellFits cells ty v
+IsTyped cells (Choice ty) = Unit {0}
+IsTyped cells (Read ty l) = IsTypedLvalue cells (ty ∷ []) l
+IsTyped cells (Unary op ty c e) = IsTyped cells e × (type_of e ≡ Integer ty ∷ [])
+IsTyped cells (Binary op ty c x y) = IsTyped cells x × (type_of x ≡ Integer ty ∷ []) × IsTyped cells y × (type_of y ≡ Integer ty ∷ [])
+IsTyped cells (Convert ty e) = IsTyped cells e × IsInteger (type_of e)
+IsTyped cells (Assign ty l e) = IsTypedLvalue cells (ty ∷ []) l × IsTyped cells e × (type_of e ≡ ty ∷ [])
+IsTyped cells (Assert c e) = IsTyped cells e × IsScalar (type_of e)
 
 abbrev mutual
-  pub IsTypedStatement : Context → CheckedTree → Type 0
-  IsTypedStatement g (Block all) = AreTyped g all
-  IsTypedStatement g (Declare n) = g.is_static n ≡ false
-  IsTypedStatement g (Static n) = g.is_static n ≡ true
-  IsTypedStatement g (Initialise n e) = (g.is_static n ≡ false) × IsTyped g e × (g.cells n ≡ type_of e)
-  IsTypedStatement g (Label n) = Unit {0}
-  IsTypedStatement g (Evaluate e) = IsTyped g e
-  IsTypedStatement g (If e s) = IsTyped g e × IsScalar (type_of e) × IsTypedStatement g s
-  IsTypedStatement g (IfElse e s t) = IsTyped g e × IsScalar (type_of e) × IsTypedStatement g s × IsTypedStatement g t
-  IsTypedStatement g (While l named e s) = IsTyped g e × IsScalar (type_of e) × IsTypedStatement g s
-  IsTypedStatement g (Return e) = IsTyped g e × (type_of e ≡ g.result)
+  -- in a function that returns such a value
+  pub IsTypedStatement : Layout → List CellType → CheckedTree → Type 0
+  IsTypedStatement cells result (Block all) = AreTyped cells result all
+  IsTypedStatement cells result (Declare n) = Unit {0}
+  IsTypedStatement cells result (Static n) = Unit {0}
+  IsTypedStatement cells result (Initialise n e) = IsTyped cells e × (cells n ≡ type_of e)
+  IsTypedStatement cells result (Label n) = Unit {0}
+  IsTypedStatement cells result (Evaluate e) = IsTyped cells e
+  IsTypedStatement cells result (If e s) = IsTyped cells e × IsScalar (type_of e) × IsTypedStatement cells result s
+  IsTypedStatement cells result (IfElse e s t) = IsTyped cells e × IsScalar (type_of e) × IsTypedStatement cells result s × IsTypedStatement cells result t
+  IsTypedStatement cells result (While l named e s) = IsTyped cells e × IsScalar (type_of e) × IsTypedStatement cells result s
+  IsTypedStatement cells result (Return e) = IsTyped cells e × (type_of e ≡ result)
 
-  pub AreTyped : Context → CheckedTrees → Type 0
-  AreTyped g none = Unit {0}
-  AreTyped g (more s rest) = IsTypedStatement g s × AreTyped g rest
+  pub AreTyped : Layout → List CellType → CheckedTrees → Type 0
+  AreTyped cells result none = Unit {0}
+  AreTyped cells result (more s rest) = IsTypedStatement cells result s × AreTyped cells result rest
+
+-- ---- checks
+
+-- the program's checks; and of a function, whether `main` reaches it, so that its checks are listed, and whether those of overflow are
+pub record Listing : Type 0 where
+  pub checks : List CheckInfo
+  pub is_reached : Bool
+  pub overflow : Bool
+
+abbrev pub IsOfKind : Kind → Option CheckInfo → Type 0
+IsOfKind kind None = ⊥
+IsOfKind kind (Some check) = check.kind ≡ kind
+
+-- the number of a check of this kind where it is listed, else 0
+abbrev pub HasCheck : Listing → Bool → Kind → ℕ → Type 0
+HasCheck g true kind c = IsOfKind kind (at_number g.checks c)
+HasCheck g false kind c = c ≡ 0
+
+-- an operator that computes on a type with a sign may overflow
+abbrev pub lists_overflow : Listing → Bool → Ty → Bool
+lists_overflow g computes ty = g.is_reached && g.overflow && computes && ty.signed
+
+abbrev pub HasChecks : Listing → TypedTree → Type 0
+HasChecks g (Constant ty v) = Unit {0}
+HasChecks g (Choice ty) = Unit {0}
+HasChecks g (Read ty l) = Unit {0}
+HasChecks g (Unary op ty c e) = HasChecks g e × HasCheck g (lists_overflow g (is_computing op) ty) Overflow c
+HasChecks g (Binary op ty c x y) = HasChecks g x × HasChecks g y × HasCheck g (lists_overflow g (is_arithmetic op) ty) Overflow c
+HasChecks g (Convert ty e) = HasChecks g e
+HasChecks g (Assign ty l e) = HasChecks g e
+HasChecks g (Assert c e) = HasChecks g e × HasCheck g g.is_reached Assertion c
+
+abbrev mutual
+  pub StatementHasChecks : Listing → CheckedTree → Type 0
+  StatementHasChecks g (Block all) = HaveChecks g all
+  StatementHasChecks g (Declare n) = Unit {0}
+  StatementHasChecks g (Static n) = Unit {0}
+  StatementHasChecks g (Initialise n e) = HasChecks g e
+  StatementHasChecks g (Label n) = Unit {0}
+  StatementHasChecks g (Evaluate e) = HasChecks g e
+  StatementHasChecks g (If e s) = HasChecks g e × StatementHasChecks g s
+  StatementHasChecks g (IfElse e s t) = HasChecks g e × StatementHasChecks g s × StatementHasChecks g t
+  StatementHasChecks g (While l named e s) = HasChecks g e × StatementHasChecks g s
+  StatementHasChecks g (Return e) = HasChecks g e
+
+  pub HaveChecks : Listing → CheckedTrees → Type 0
+  HaveChecks g none = Unit {0}
+  HaveChecks g (more s rest) = StatementHasChecks g s × HaveChecks g rest
 
 -- ---- scopes
 
 -- an object of static storage may be named anywhere, every other one where its declaration is in scope
-abbrev pub IsNameable : Context → List ℕ → ℕ → Type 0
-IsNameable g scope n = (g.is_static n ≡ true) ⊎ IsIn n scope
+abbrev pub IsNameable : (ℕ → Bool) → List ℕ → ℕ → Type 0
+IsNameable is_static scope n = (is_static n ≡ true) ⊎ IsIn n scope
 
-abbrev pub IsScopedLvalue : Context → List ℕ → LvalueTree → Type 0
-IsScopedLvalue g scope (Object n) = IsNameable g scope n
+abbrev pub IsScopedLvalue : (ℕ → Bool) → List ℕ → LvalueTree → Type 0
+IsScopedLvalue is_static scope (Object n) = IsNameable is_static scope n
 
-abbrev pub IsScoped : Context → List ℕ → TypedTree → Type 0
-IsScoped g scope (Constant ty v) = Unit {0}
-IsScoped g scope (Choice ty) = Unit {0}
-IsScoped g scope (Read ty l) = IsScopedLvalue g scope l
-IsScoped g scope (Unary op ty c e) = IsScoped g scope e
-IsScoped g scope (Binary op ty c x y) = IsScoped g scope x × IsScoped g scope y
-IsScoped g scope (Convert ty e) = IsScoped g scope e
-IsScoped g scope (Assign ty l e) = IsScopedLvalue g scope l × IsScoped g scope e
-IsScoped g scope (Assert c e) = IsScoped g scope e
+abbrev pub IsScoped : (ℕ → Bool) → List ℕ → TypedTree → Type 0
+IsScoped is_static scope (Constant ty v) = Unit {0}
+IsScoped is_static scope (Choice ty) = Unit {0}
+IsScoped is_static scope (Read ty l) = IsScopedLvalue is_static scope l
+IsScoped is_static scope (Unary op ty c e) = IsScoped is_static scope e
+IsScoped is_static scope (Binary op ty c x y) = IsScoped is_static scope x × IsScoped is_static scope y
+IsScoped is_static scope (Convert ty e) = IsScoped is_static scope e
+IsScoped is_static scope (Assign ty l e) = IsScopedLvalue is_static scope l × IsScoped is_static scope e
+IsScoped is_static scope (Assert c e) = IsScoped is_static scope e
 
 -- the scope behind an item
 abbrev pub behind : List ℕ → CheckedTree → List ℕ
@@ -117,22 +142,22 @@ behind scope (Initialise n e) = scope ++ n ∷ []
 behind scope s = scope
 
 abbrev mutual
-  -- an object is in scope in its own initialiser, and from there to the end of its block (C11 6.2.1)
-  pub IsScopedStatement : Context → List ℕ → CheckedTree → Type 0
-  IsScopedStatement g scope (Block all) = AreScoped g scope all
-  IsScopedStatement g scope (Declare n) = Unit {0}
-  IsScopedStatement g scope (Static n) = Unit {0}
-  IsScopedStatement g scope (Initialise n e) = IsScoped g (scope ++ n ∷ []) e
-  IsScopedStatement g scope (Label n) = Unit {0}
-  IsScopedStatement g scope (Evaluate e) = IsScoped g scope e
-  IsScopedStatement g scope (If e s) = IsScoped g scope e × IsScopedStatement g scope s
-  IsScopedStatement g scope (IfElse e s t) = IsScoped g scope e × IsScopedStatement g scope s × IsScopedStatement g scope t
-  IsScopedStatement g scope (While l named e s) = IsScoped g scope e × IsScopedStatement g scope s
-  IsScopedStatement g scope (Return e) = IsScoped g scope e
+  -- an object is in scope in its own initialiser, and from there to the end of its block (C11 6.2.1); its declaration has its storage
+  pub IsScopedStatement : (ℕ → Bool) → List ℕ → CheckedTree → Type 0
+  IsScopedStatement is_static scope (Block all) = AreScoped is_static scope all
+  IsScopedStatement is_static scope (Declare n) = is_static n ≡ false
+  IsScopedStatement is_static scope (Static n) = is_static n ≡ true
+  IsScopedStatement is_static scope (Initialise n e) = (is_static n ≡ false) × IsScoped is_static (scope ++ n ∷ []) e
+  IsScopedStatement is_static scope (Label n) = Unit {0}
+  IsScopedStatement is_static scope (Evaluate e) = IsScoped is_static scope e
+  IsScopedStatement is_static scope (If e s) = IsScoped is_static scope e × IsScopedStatement is_static scope s
+  IsScopedStatement is_static scope (IfElse e s t) = IsScoped is_static scope e × IsScopedStatement is_static scope s × IsScopedStatement is_static scope t
+  IsScopedStatement is_static scope (While l named e s) = IsScoped is_static scope e × IsScopedStatement is_static scope s
+  IsScopedStatement is_static scope (Return e) = IsScoped is_static scope e
 
-  pub AreScoped : Context → List ℕ → CheckedTrees → Type 0
-  AreScoped g scope none = Unit {0}
-  AreScoped g scope (more s rest) = IsScopedStatement g scope s × AreScoped g (behind scope s) rest
+  pub AreScoped : (ℕ → Bool) → List ℕ → CheckedTrees → Type 0
+  AreScoped is_static scope none = Unit {0}
+  AreScoped is_static scope (more s rest) = IsScopedStatement is_static scope s × AreScoped is_static (behind scope s) rest
 
 -- ---- static values
 
@@ -158,15 +183,9 @@ abbrev pub is_static_object : Option ObjectInfo → Bool
 is_static_object None = false
 is_static_object (Some o) = o.is_static
 
-abbrev pub context_of : ProgramTree → Bool → Bool → List CellType → Context
-context_of p overflow is_reached result = record {
-  cells = cells_of p;
-  is_static = λ n. is_static_object (at_number p.objects n);
-  checks = p.checks;
-  result = result;
-  is_reached = is_reached;
-  overflow = overflow;
-}
+-- whether an object is static
+abbrev pub statics_of : ProgramTree → ℕ → Bool
+statics_of p n = is_static_object (at_number p.objects n)
 
 abbrev pub objects_of : ProgramTree → ℕ → List ℕ
 objects_of p k = numbers_where (λ (o : ObjectInfo). o.function == k) 1 p.objects
@@ -174,23 +193,27 @@ objects_of p k = numbers_where (λ (o : ObjectInfo). o.function == k) 1 p.object
 abbrev pub loops_of : ProgramTree → ℕ → List ℕ
 loops_of p k = numbers_where (λ (l : LoopInfo). l.function == k) 1 p.loops
 
-abbrev pub AreNotStatic : Context → List ℕ → Type 0
-AreNotStatic g [] = Unit {0}
-AreNotStatic g (n ∷ ns) = (g.is_static n ≡ false) × AreNotStatic g ns
+abbrev pub AreNotStatic : (ℕ → Bool) → List ℕ → Type 0
+AreNotStatic is_static [] = Unit {0}
+AreNotStatic is_static (n ∷ ns) = (is_static n ≡ false) × AreNotStatic is_static ns
 
--- the function of this number
-pub record IsLawfulFunction (p : ProgramTree) (g : Context) (k : ℕ) (f : FunctionTree) : Type 0 where
+-- the function of this number, whose checks are listed so
+pub record IsLawfulFunction (p : ProgramTree) (g : Listing) (k : ℕ) (f : FunctionTree) : Type 0 where
   -- its objects are its parameters and then those of the declarations in its tree, in the order of the text
   pub objects : objects_of p k ≡ f.parameters ++ declared_in f.body
-  pub parameters : AreNotStatic g f.parameters
+  pub parameters : AreNotStatic (statics_of p) f.parameters
   pub loops : loops_of p k ≡ loops_in f.body
-  pub typed : IsTypedStatement g f.body
-  pub scoped : IsScopedStatement g f.parameters f.body
+  pub typed : IsTypedStatement (cells_of p) f.result f.body
+  pub scoped : IsScopedStatement (statics_of p) f.parameters f.body
+  pub checks : StatementHasChecks g f.body
+
+abbrev pub main_result : List CellType
+main_result = Integer int_type ∷ []
 
 -- `int main(void)`, `int main()` or `int main(int, char **)`
 abbrev pub IsMainForm : ProgramTree → FunctionTree → Type 0
 IsMainForm p f =
-    (f.result ≡ Integer int_type ∷ []) ×
+    (f.result ≡ main_result) ×
     ((f.parameters ≡ []) ⊎ (map (cells_of p) f.parameters ≡ (Integer int_type ∷ []) ∷ (Pointer ∷ []) ∷ []))
 
 abbrev pub IsSome : {A : Type 0} → Option A → Type 0
@@ -215,7 +238,7 @@ pub record IsLawful (p : ProgramTree) : Type 0 where
   -- whether checks of overflow are listed
   pub overflow : Bool
   -- without calls `main` reaches its own body alone
-  pub functions : (k : ℕ) (f : FunctionTree) → at_number p.functions k ≡ Some f → IsLawfulFunction p (context_of p overflow (k == main) f.result) k f
+  pub functions : (k : ℕ) (f : FunctionTree) → at_number p.functions k ≡ Some f → IsLawfulFunction p (record { checks = p.checks; is_reached = k == main; overflow = overflow }) k f
   -- an object of file scope is static; every other one is a function's
   pub objects : (n : ℕ) (o : ObjectInfo) → at_number p.objects n ≡ Some o → ((o.function ≡ 0) × (o.is_static ≡ true)) ⊎ IsSome (at_number p.functions o.function)
   pub loops : (l : ℕ) (loop : LoopInfo) → at_number p.loops l ≡ Some loop → IsSome (at_number p.functions loop.function)
