@@ -4,8 +4,7 @@ use Rattle.l2_syntax.specs.declared.refusal.Refusal.{Refusal}
 use Rattle.l2_lex.specs.Lexing.{Lexed, tokens_of}
 use Rattle.l2_tree.specs.Trees.{UnitTree}
 use Rattle.l2_parse_unit.specs.Reading.{Spells, SpellsText, IsRefused, IsTextRefused, UniqueUnitLaw, RefusedLaw}
-use Rattle.twols.specs.Answers.{small_program, IsProgram, IsNoProgram, IsRefusalOf, not_built, unread}
-use Rattle.twols.specs.Printed.{not_built_yet}
+use Rattle.l2_answer.specs.Programs.{small_program, IsProgram, IsNoProgram, IsRefusalOf, not_built, unread, not_built_yet}
 
 -- the one unit that the text spells has no program
 pub no_program : (text : List ℕ) (u : UnitTree) → UniqueUnitLaw → SpellsText text u → small_program u ≡ None → IsNoProgram text
@@ -23,6 +22,3 @@ pub is_unread : (text : List ℕ) (r : Lexed) (f : Refusal) → RefusedLaw → r
 is_unread text r f law e h =
     let t : IsTextRefused text f = subst (λ x. IsRefused x f) e h in
     ((λ p is. law (tokens_of text) f is.unit t is.spelt), unread f t)
-
-pub spelt_text : (text : List ℕ) (r : Lexed) (u : UnitTree) → r ≡ tokens_of text → Spells r u → SpellsText text u
-spelt_text text r u e s = subst (λ x. Spells x u) e s

@@ -1,9 +1,8 @@
 ghost use Rattle.std.specs.Prelude.{◌≡◌, ◌++◌, codes, decimal, IfOk, OnOk, string_bytes};
 ghost use Rattle.l2_program.specs.Kinds.{kind_text};
 ghost use Rattle.l2_syntax.specs.Places.{place_text};
-ghost use Rattle.l2_replay.specs.Reach.{execution_of};
 ghost use Rattle.l2_syntax.specs.Refusals.{rule_text};
-ghost use Rattle.twols.specs.Printed.{outcome_text, broken_text, replay_line, refusal_line};
+ghost use Rattle.l2_answer.specs.Printed.{outcome_text, broken_text, replay_line, refusal_line};
 
 use l2_runs::Outcome;
 use l2_replay::Replay;
@@ -63,7 +62,7 @@ pub fn replay_line(
     checks: &[CheckInfo],
     replay: Replay,
 ) -> Result<String, AllocError>
-    ensures { IfOk result (λ s. string_bytes s ≡ replay_line checks.now (execution_of replay)) }
+    ensures { IfOk result (λ s. string_bytes s ≡ replay_line checks.now replay.outcome replay.turns_used replay.choices_used) }
 {
     let mut text = outcome_text(alloc, checks, replay.outcome)?;
     text.push_str(" turns=")?;

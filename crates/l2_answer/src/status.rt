@@ -1,5 +1,7 @@
 ghost use Rattle.std.specs.Prelude.{◌≡◌};
-ghost use Rattle.twols.specs.Statuses.{status_number};
+ghost use Rattle.l2_answer.specs.Statuses.{status_number, status_of};
+
+use l2_runs::Outcome;
 
 /// How a run ends.
 #[derive(Clone, Copy, Debug, PartialEq, Eq)]
@@ -39,5 +41,26 @@ impl Status {
             Status::Short => 9,
             Status::Unsafe => 10,
         }
+    }
+}
+
+/// What a run ends with and prints, but for faults of writing.
+#[derive(Debug, Drop)]
+pub struct Answer {
+    pub status: Status,
+    /// With its LF.
+    pub line: String,
+}
+
+/// The status that a replay with this outcome ends with.
+pub fn status_of(outcome: Outcome) -> Status
+    ensures { result ≡ status_of outcome }
+{
+    match outcome {
+        Outcome::Ended => Status::Fine,
+        Outcome::Stopped => Status::Fine,
+        Outcome::Broken(_) => Status::Unsafe,
+        Outcome::OutOfChoices => Status::Short,
+        Outcome::OutOfTurns => Status::Short,
     }
 }
