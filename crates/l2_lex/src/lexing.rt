@@ -8,6 +8,7 @@ ghost use Rattle.l2_directives.specs.Headers.{entry, entries};
 ghost use Rattle.l2_lex.specs.States.{State, emit, emit_all, number_kind, macro_kinds, number_of, role_of, know, set_role, learn, learn_all, declare_all, pass_mark, before_word, declare, as_type, learnt};
 ghost use Rattle.l2_lex.specs.Lexing.{goes, stops, name_as, known_name, name, pass, word, constant, token_of, is_open, is_close, attribute_behind, is_word_refused, attributed, is_macro, is_constant, is_defined, defines_one, pass_line, include, become_macro, define, is_open_comment, open_comment, direct, is_passed, directed, is_hash, is_inside, begins_directive, is_on_line, line_behind, own_fault, step_on, step, Turn, lexed, is_outside, finish, first_state, lex, tokens_of, comment_or};
 ghost use Rattle.l2_lex.specs.Code.{state_of, turn_of, lexed_of, Bounded, many};
+ghost use Rattle.l2_limits.specs.Limits.{text_limit};
 
 use crate::known::{Known, know, role, role_of_word, set_role};
 use crate::marks::{before_word, declares, ends_typedef, typedef_behind};
@@ -646,7 +647,7 @@ fn part(pieces: &[Piece], at: usize) -> (Piece, &[Piece])
 /// The tokens of a text up to its first lexical refusal, which is `stop`. Where nothing is refused the last token is `End`.
 /// A refusal of an `__attribute__` that has no parenthesis, or whose parentheses aren't balanced, has the rule `Syntax`.
 pub fn tokens(alloc: Global, text: &[u8]) -> Result<Tokens, AllocError>
-    requires { length text.now ≤ 1048576 }
+    requires { length text.now ≤ text_limit }
     ensures { IfOk result (λ r. lexed_of r ≡ tokens_of text.now) }
 {
     let pieces = pieces(alloc, text)?;

@@ -1,6 +1,7 @@
 // Comments, and line splices in them.
 ghost use Rattle.std.specs.Prelude.{◌≡◌, ◌≤◌, ◌<◌, ◌+◌, ◌^◌, false, length, MatchOption, None, Some, IfSome};
 ghost use Rattle.l2_pieces.specs.Fronts.{closed_comment, ends_line, is_splice, unspliced, comment};
+ghost use Rattle.l2_limits.specs.Limits.{text_limit};
 
 use crate::bytes::begins_with;
 use crate::cut::rest_of;
@@ -9,7 +10,7 @@ use l2_syntax::Rule;
 
 /// How many bytes a comment has, by the text behind its first two.
 pub fn closed_comment(text: &[u8]) -> Option<usize>
-    requires { length text.now ≤ 1048576 }
+    requires { length text.now ≤ text_limit }
     ensures value { result ≡ closed_comment false 2 text.now }
     ensures within { IfSome result (λ n. n ≤ length text.now + 2) }
 {

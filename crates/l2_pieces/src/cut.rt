@@ -2,6 +2,7 @@
 ghost use Rattle.std.specs.Prelude.{◌≡◌, ◌≤◌, ◌<◌, ◌+◌, ◌^◌, ◌++◌, [], take, drop, length, cond, get_or, IfOk, OnOk};
 ghost use Rattle.std.specs.List.{filter};
 ghost use Rattle.l2_pieces.specs.Pieces.{behind, behind_all, first_place, parts, pieces, bytes_of, is_solid, is_blank, is_fault};
+ghost use Rattle.l2_limits.specs.Limits.{text_limit};
 
 use crate::fronts::front;
 use crate::piece::{Piece, PieceKind};
@@ -42,7 +43,7 @@ pub fn bytes_of(text: &[u8], piece: Piece) -> &[u8]
 
 /// The place behind a byte.
 fn behind(byte: u8, place: Place) -> Place
-    requires offset { place.offset ≤ 1048576 }
+    requires offset { place.offset ≤ text_limit }
     requires line { place.line ≤ 1048577 }
     requires col { place.col ≤ 1048577 }
     ensures { result ≡ behind byte place }
@@ -65,7 +66,7 @@ fn behind(byte: u8, place: Place) -> Place
 
 /// The place behind a whole text.
 pub fn end_of(text: &[u8]) -> Place
-    requires { length text.now ≤ 1048576 }
+    requires { length text.now ≤ text_limit }
     ensures { result ≡ behind_all text.now first_place }
 {
     let mut place = Place {
@@ -107,7 +108,7 @@ fn cut_one(
     next: Place,
 ) -> Result<Cursor, AllocError>
     requires rest { 1 ≤ length rest.now }
-    requires short { length rest.now ≤ 1048576 }
+    requires short { length rest.now ≤ text_limit }
     requires next { next ≡ behind (get_or rest.now 0 0) place }
     ensures parts { IfOk result (λ c. kept.new.items ++ filter is_solid (cond c.stopped [] (parts c.place c.inside (drop 1 rest.now))) ≡ kept.old.items ++ filter is_solid (parts place 0 rest.now)) }
     ensures place { IfOk result (λ c. c.place ≡ next) }
@@ -139,8 +140,8 @@ fn advance(
     inside: usize,
 ) -> Result<Cursor, AllocError>
     requires rest { 1 ≤ length rest.now }
-    requires short { length rest.now ≤ 1048576 }
-    requires offset { place.offset ≤ 1048576 }
+    requires short { length rest.now ≤ text_limit }
+    requires offset { place.offset ≤ text_limit }
     requires line { place.line ≤ 1048577 }
     requires col { place.col ≤ 1048577 }
     ensures parts { IfOk result (λ c. kept.new.items ++ filter is_solid (cond c.stopped [] (parts c.place c.inside (drop 1 rest.now))) ≡ kept.old.items ++ filter is_solid (parts place inside rest.now)) }
@@ -161,7 +162,7 @@ fn advance(
 
 /// The pieces of a text but for white space and comments, up to the first fault, which is the last. Its one answer besides is want of memory.
 pub fn pieces(alloc: Global, text: &[u8]) -> Result<Vec<Piece>, AllocError>
-    requires { length text.now ≤ 1048576 }
+    requires { length text.now ≤ text_limit }
     ensures pieces { IfOk result (λ r. r.items ≡ pieces text.now) }
     ensures few { IfOk result (λ r. length r.items ≤ length text.now) }
 {

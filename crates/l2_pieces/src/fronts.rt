@@ -3,6 +3,7 @@ ghost use Rattle.std.specs.Prelude.{◌≡◌, ◌≤◌, ◌+◌, ◌∷◌, le
 ghost use Rattle.std.specs.List.{prefix_len};
 ghost use Rattle.l2_pieces.specs.Bytes.{is_space};
 ghost use Rattle.l2_pieces.specs.Fronts.{front, punctuator, longest_punctuator, slash, begins_number, begins_prefixed};
+ghost use Rattle.l2_limits.specs.Limits.{text_limit};
 
 use crate::bytes::{
     begins_with, begins_with_digit, is_digit, is_letter, is_prefix, is_space, line_length,
@@ -46,7 +47,7 @@ fn longest_punctuator(text: &[u8]) -> Front
 /// What begins with a slash: a comment or a punctuator.
 fn slash(text: &[u8], behind: &[u8]) -> Front
     requires slash { text.now ≡ 47 ∷ behind.now }
-    requires short { length behind.now ≤ 1048576 }
+    requires short { length behind.now ≤ text_limit }
     ensures value { result ≡ slash behind.now }
     ensures within { result.length ≤ length behind.now + 3 }
 {
@@ -79,7 +80,7 @@ fn begins_prefixed(byte: u8, behind: &[u8]) -> bool
 
 /// The longest piece that begins at the first byte of a text.
 pub fn front(text: &[u8]) -> Front
-    requires { length text.now ≤ 1048576 }
+    requires { length text.now ≤ text_limit }
     ensures value { result ≡ front text.now }
     ensures within { result.length ≤ length text.now + 4 }
 {

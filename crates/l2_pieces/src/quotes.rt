@@ -1,6 +1,7 @@
 // String literals and character constants.
 ghost use Rattle.std.specs.Prelude.{◌≡◌, ◌≤◌, ◌<◌, ◌+◌, false, length, None, Some, IfSome};
 ghost use Rattle.l2_pieces.specs.Fronts.{closed_string, string, is_plain_character, is_escaped_character, character};
+ghost use Rattle.l2_limits.specs.Limits.{text_limit};
 
 use crate::bytes::{is_escape, is_plain};
 use crate::piece::{Front, PieceKind};
@@ -8,7 +9,7 @@ use l2_syntax::Rule;
 
 /// How many bytes a string literal has, by the text behind its first quote.
 fn closed_string(text: &[u8]) -> Option<usize>
-    requires { length text.now ≤ 1048576 }
+    requires { length text.now ≤ text_limit }
     ensures value { result ≡ closed_string false 1 text.now }
     ensures within { IfSome result (λ n. n ≤ length text.now + 1) }
 {
@@ -29,7 +30,7 @@ fn closed_string(text: &[u8]) -> Option<usize>
 
 /// A string literal, by the text behind its first quote.
 pub fn string(text: &[u8]) -> Front
-    requires { length text.now ≤ 1048576 }
+    requires { length text.now ≤ text_limit }
     ensures value { result ≡ string (closed_string false 1 text.now) }
     ensures within { result.length ≤ length text.now + 1 }
 {

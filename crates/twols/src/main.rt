@@ -1,18 +1,11 @@
 //! A verifier for C programs. Today it replays executions of programs of a small form.
 #![tactic(auto)]
 
-mod answer;
-mod judge;
-mod line;
 mod run;
-mod status;
-#[cfg(test)]
-mod tests;
-mod words;
 
+use l2_answer::Status;
 use l2_outside::{FileShelf, StdSink};
 pub use run::run;
-pub use status::Status;
 use std::process::ExitCode;
 use std::{env, io};
 

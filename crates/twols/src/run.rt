@@ -1,26 +1,28 @@
-ghost use Rattle.std.specs.Prelude.{◌≡◌, ◌⊎◌};
+ghost use Rattle.std.specs.Prelude.{◌≡◌, ◌≤◌};
 ghost use Rattle.l2_outside.specs.Outside.{Rose};
-ghost use Rattle.twols.specs.Words.{texts};
-ghost use Rattle.twols.specs.Answers.{Prints, LacksOne};
+ghost use Rattle.l2_request.specs.Words.{texts};
+ghost use Rattle.l2_answer.specs.Answers.{Prints};
 
-use crate::answer::answer;
-use crate::status::Status;
+use l2_answer::{Status, answer, status_law};
 use l2_outside::{Failed, Shelf, Sink, write_text};
 use std::alloc::Global;
 
-/// Does all that the program does. `words` are those after the program's name.
+/// Does all that the program does. `words` are those behind the program's name.
 pub fn run<H: Shelf, K: Sink>(alloc: Global, words: &[String], shelf: &mut H, out: &mut K) -> Status
-    ensures prints { Prints (H.files shelf.old) (texts words.now) result (K.written out.old) (K.written out.new) }
-    ensures read_fault { result ≡ Status.ReadFault →
-        Rose (H.read_faults shelf.old) (H.read_faults shelf.new) ⊎ LacksOne (H.files shelf.old) (texts words.now) }
+    ensures prints { Prints (H.files shelf.old) (H.read_faults shelf.old) (H.read_faults shelf.new) (texts words.now) result
+        (K.written out.old) (K.written out.new) }
     ensures write_fault { result ≡ Status.WriteFault → Rose (K.faults out.old) (K.faults out.new) }
     ensures files { H.files shelf.new ≡ H.files shelf.old }
+    ensures read_faults { H.read_faults shelf.old ≤ H.read_faults shelf.new }
+    ensures write_faults { H.write_faults shelf.new ≡ H.write_faults shelf.old }
+    ensures faults { K.faults out.old ≤ K.faults out.new }
 {
-    let Ok((status, line)) = answer(alloc, words, shelf) else {
+    status_law();
+    let Ok(answer) = answer(alloc, words, shelf) else {
         return Status::NoMemory;
     };
-    match write_text(line.as_bytes(), out) {
-        Ok(()) => status,
+    match write_text(answer.line.as_bytes(), out) {
+        Ok(()) => answer.status,
         Err(Failed) => Status::WriteFault,
     }
 }

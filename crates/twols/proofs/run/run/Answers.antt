@@ -1,11 +1,14 @@
-use Rattle.std.proofs.Common.{◌≡◌, ap, ◌∙◌, sym, string_bytes}
-use Rattle.l2_outside.specs.Outside.{grown}
-use Rattle.twols.specs.Words.{texts}
-use Rattle.twols.proofs.Printing.{prints_answer}
+use Rattle.std.proofs.Common.{◌≡◌, ap, ◌∙◌, refl, subst, string_bytes}
+use Rattle.l2_outside.specs.Outside.{grown, GrewByPrefix}
+use Rattle.l2_answer.specs.Answers.{whole, cut_off}
 use Rattle.twols.proofs.run.run.Goals as goal
 
 pub returns-in-Ok-write_text-clause-prints : goal.returns-in-Ok-write_text-clause-prints
 returns-in-Ok-write_text-clause-prints g c =
-    let written = c.in-Ok-write_text.ensures.ok ∙ ap (λ bytes. grown (g.K.Sink.written c.args.out.now) bytes) c.as_bytes.ensures.value in
-    prints_answer (g.H.Shelf.files c.args.shelf.now) (texts c.args.words.now) c.in-Ok.status (string_bytes c.in-Ok.line)
-    (g.K.Sink.written c.args.out.now) (g.K.Sink.written c.write_text.new.out) c.in-Ok.ensures.answers written
+    whole (string_bytes c.in-Ok.answer.line) c.in-Ok.ensures.answers
+    (c.in-Ok-write_text.ensures.ok ∙ ap (λ bytes. grown (g.K.Sink.written c.args.out.now) bytes) c.as_bytes.ensures.value)
+
+pub returns-clause-prints : goal.returns-clause-prints
+returns-clause-prints g c =
+    cut_off c.in-Ok.answer.status (string_bytes c.in-Ok.answer.line) c.in-Ok.ensures.answers refl
+    (subst (λ text. GrewByPrefix (g.K.Sink.written c.args.out.now) (g.K.Sink.written c.write_text.new.out) text) c.as_bytes.ensures.value c.in-Err.ensures.prefix)

@@ -1,0 +1,17 @@
+use Rattle.std.proofs.Common.{◌≡◌, Err, ap}
+use Rattle.l2_inputs.specs.Inputs.{input_of}
+use Rattle.l2_answer.proofs.Requests.{judged_replay, unread_replay}
+use Rattle.l2_answer.proofs.answering.answer_replay.Goals as goal
+
+pub returns-in-Ok-clause-answers : goal.returns-in-Ok-clause-answers
+returns-in-Ok-clause-answers g c = λ words asks.
+    judged_replay (g.H.Shelf.files c.args.shelf.now) (g.H.Shelf.read_faults c.args.shelf.now) (g.H.Shelf.read_faults c.read_two.new.shelf) words
+    c.args.file.now c.args.values.now (input_of c.text.result) (input_of c.values_file.result)
+    c.in-Ok.text.items c.in-Ok.values.items c.deref.result.now c.deref-in-Ok.result.now asks c.text.ensures c.values_file.ensures
+    c.in-Ok.ensures.ok c.deref.ensures.value c.deref-in-Ok.ensures.value c.replay_answer.result c.replay_answer.ensures
+
+pub returns-in-Err-clause-answers : goal.returns-in-Err-clause-answers
+returns-in-Err-clause-answers g c = λ words asks.
+    unread_replay (g.H.Shelf.files c.args.shelf.now) (g.H.Shelf.read_faults c.args.shelf.now) (g.H.Shelf.read_faults c.read_two.new.shelf) words
+    c.args.file.now c.args.values.now (input_of c.text.result) (input_of c.values_file.result) c.in-Err.error asks c.text.ensures c.values_file.ensures
+    (λ q. c.in-Err.ensures.fault (ap Err q)) (λ q. c.in-Err.ensures.too_long (ap Err q)) c.unread.result c.unread.ensures

@@ -1,0 +1,66 @@
+ghost use Rattle.std.specs.Prelude.{◌≡◌};
+ghost use Rattle.l2_answer.specs.Statuses.{status_number, status_of};
+
+use l2_runs::Outcome;
+
+/// How a run ends.
+#[derive(Clone, Copy, Debug, PartialEq, Eq)]
+pub enum Status {
+    Fine,
+    /// The words are refused.
+    Usage,
+    ReadFault,
+    WriteFault,
+    NoMemory,
+    Unknown,
+    /// The text is refused.
+    Refused,
+    /// The second file is refused.
+    FileRefused,
+    TooLong,
+    /// A replay ran out of choices or turns.
+    Short,
+    Unsafe,
+}
+
+impl Status {
+    /// The exit status of the program.
+    pub fn number(self) -> u8
+        ensures { result ≡ status_number self }
+    {
+        match self {
+            Status::Fine => 0,
+            Status::Usage => 1,
+            Status::ReadFault => 2,
+            Status::WriteFault => 3,
+            Status::NoMemory => 4,
+            Status::Unknown => 5,
+            Status::Refused => 6,
+            Status::FileRefused => 7,
+            Status::TooLong => 8,
+            Status::Short => 9,
+            Status::Unsafe => 10,
+        }
+    }
+}
+
+/// What a run ends with and prints, but for faults of writing.
+#[derive(Debug, Drop)]
+pub struct Answer {
+    pub status: Status,
+    /// With its LF.
+    pub line: String,
+}
+
+/// The status that a replay with this outcome ends with.
+pub fn status_of(outcome: Outcome) -> Status
+    ensures { result ≡ status_of outcome }
+{
+    match outcome {
+        Outcome::Ended => Status::Fine,
+        Outcome::Stopped => Status::Fine,
+        Outcome::Broken(_) => Status::Unsafe,
+        Outcome::OutOfChoices => Status::Short,
+        Outcome::OutOfTurns => Status::Short,
+    }
+}

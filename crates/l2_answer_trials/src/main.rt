@@ -1,0 +1,17 @@
+//! Answers words over files in memory, so that each status and each line is seen.
+#![tactic(auto)]
+
+mod rows;
+mod trial;
+
+use std::process::ExitCode;
+
+fn main(rt: HostRuntime) -> ExitCode {
+    let alloc = rt.alloc();
+    let all = rows::executions(&rt, alloc)
+        && rows::refusals(&rt, alloc)
+        && rows::limits(&rt, alloc)
+        && rows::faults(&rt, alloc)
+        && rows::commands(&rt, alloc);
+    ExitCode::from(u8::from(!all))
+}

@@ -1,4 +1,0 @@
-pub mod Answers
-pub mod Printed
-pub mod Statuses
-pub mod Words
