@@ -1,6 +1,6 @@
 -- The typed tree of a construct, from its parts: its tokens and the constructs in it, in their order. What a construct begins with says
 -- what it is; no state of the grammar's networks is needed.
-use Rattle.std.specs.Prelude.{ℕ, ℤ, Bool, true, false, cond, not, ◌&&◌, ◌||◌, List, [], ◌∷◌, ◌++◌, Option, Some, None, is_some}
+use Rattle.std.specs.Prelude.{ℕ, Bool, true, false, cond, not, ◌&&◌, List, [], ◌∷◌, ◌++◌, Option, Some, None, is_some}
 use Rattle.l2_syntax.specs.declared.place.Place.{Place}
 use Rattle.l2_syntax.specs.declared.token.Mark.{Mark}
 use Rattle.l2_syntax.specs.declared.token.Mark.TheVariants as mark
@@ -10,9 +10,7 @@ use Rattle.l2_grammar.specs.Marks.{is}
 use Rattle.l2_grammar.specs.Trees.{Tree, begin, token, child}
 use Rattle.l2_tree.specs.declared.operators.UnaryOperator.{UnaryOperator}
 use Rattle.l2_tree.specs.declared.operators.UnaryOperator.TheVariants as unary
-use Rattle.l2_tree.specs.declared.operators.UpdateOperator.{UpdateOperator}
 use Rattle.l2_tree.specs.declared.operators.UpdateOperator.TheVariants as update
-use Rattle.l2_tree.specs.declared.operators.MemberOperator.{MemberOperator}
 use Rattle.l2_tree.specs.declared.operators.MemberOperator.TheVariants as member
 use Rattle.l2_tree.specs.declared.operators.BinaryOperator.{BinaryOperator}
 use Rattle.l2_tree.specs.declared.operators.BinaryOperator.TheVariants as binary
