@@ -5,3 +5,5 @@ pub mod BackSteps
 pub mod BackDeclarators
 pub mod BackDeclarations
 pub mod BackExpressions
+pub mod BackStatements
+pub mod Unique
