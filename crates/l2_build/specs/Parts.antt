@@ -3,10 +3,6 @@ use Rattle.std.specs.Prelude.{ℕ, ◌+◌, List, [], ◌∷◌}
 use Rattle.l2_reader.specs.declared.syntax.Syntax as syntax
 use Rattle.l2_reader.specs.declared.syntax.Syntax.{Syntax, Row_of-Syntax, end_of-Syntax, more_of-Syntax}
 use Rattle.l2_tree.specs.Build.{Part, leaf, node, built}
-use Rattle.l2_syntax.specs.declared.place.Place.{Place}
-use Rattle.l2_tree.specs.Trees.{ParameterTree}
-use Rattle.l2_tree.specs.Units.{parameter_tree}
-use Rattle.l2_build.specs.declared.types.TypeName.{TypeName}
 use Rattle.l2_build.specs.declared.next.Next.{Next}
 use Rattle.l2_build.specs.declared.next.Next.TheVariants as next
 
@@ -47,6 +43,3 @@ abbrev pub next_size : Next → ℕ
 next_size next.End = 0
 next_size (next.Leaf t rest) = 1 + size_of rest.now
 next_size (next.Node inner rest) = 1 + size_of inner.now + size_of rest.now
-
-abbrev pub type_name_tree : TypeName → Place × ParameterTree
-type_name_tree t = (t.place, parameter_tree t.named.value)

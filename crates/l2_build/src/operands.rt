@@ -1,13 +1,15 @@
 // What stands behind an operand.
 ghost use Rattle.std.specs.Prelude.{◌≡◌, ◌≢◌, ◌≤◌, IfOk, IfErr, None, Some};
 ghost use Rattle.l2_tree.specs.Build.{tail as tail_of, continued as goes_on, arguments as arguments_of};
-ghost use Rattle.l2_tree.specs.Trees.{Call as call_tree, no_exprs};
+ghost use Rattle.l2_tree.specs.Trees.{no_exprs};
 ghost use Rattle.l2_tree.specs.Units.{expr_tree, exprs_onto};
 ghost use Rattle.l2_build.specs.Parts.{parts_of, size_of};
 
 use crate::error::BuildError;
 use crate::expressions::expr_of;
+use crate::made::call;
 use crate::next::{Next, split};
+use crate::starts::continuation_of;
 use l2_networks::is;
 use l2_reader::Syntax;
 use l2_syntax::{Mark, Place, TokenKind};
@@ -190,20 +192,6 @@ fn with_update<'a>(
     Ok(Operand { value, rest: parts })
 }
 
-/// A call with its arguments.
-#[tactic(auto, using(l2_tree::proofs::Expressions::expressions))]
-fn call(
-    alloc: Global,
-    function: Box<Expr>,
-    place: Place,
-    arguments: Vec<Expr>,
-) -> Result<Box<Expr>, BuildError>
-    ensures ok { IfOk result (λ e. expr_tree e.value ≡ call_tree (expr_tree function.value) place (exprs_onto no_exprs arguments.items)) }
-    ensures err { IfErr result (λ f. f ≡ BuildError.NoMemory) }
-{
-    Ok(Box::new(alloc, Expr::Call(function, place, arguments))?)
-}
-
 /// Behind an argument.
 #[cycle(build)]
 #[tactic(auto, using(l2_tree::proofs::Expressions::expressions))]
@@ -312,7 +300,7 @@ pub fn tail(alloc: Global, value: Box<Expr>, parts: &[Syntax]) -> Result<Box<Exp
             Next::End => return Ok(operand),
             Next::Node(_, _) => return Err(BuildError::Misfit),
             Next::Leaf(token, behind) => {
-                let Some(continuation) = crate::starts::continuation_of(token.kind) else {
+                let Some(continuation) = continuation_of(token.kind) else {
                     return Err(BuildError::Misfit);
                 };
                 let Operand { value, rest } =

@@ -1,11 +1,12 @@
 // What a token begins.
-ghost use Rattle.std.specs.Prelude.{◌≡◌};
-ghost use Rattle.l2_tree.specs.Build.{unary_of, opening_mark, opening_of, binary_of, assignment_of, operator_of, continuation_mark, continuation_of};
+ghost use Rattle.std.specs.Prelude.{◌≡◌, Option, None, Some};
+ghost use Rattle.l2_tree.specs.Build.{unary_of, opening_mark, opening_of, binary_of, assignment_of, operator_of, continuation_mark, continuation_of, word_of, simple_of, is_specifier_mark, is_specifier};
+ghost use Rattle.l2_build.specs.Types.{perhaps_specifier, word_number};
 
-use l2_syntax::{Mark, TokenKind};
+use l2_syntax::{Mark, Place, TokenKind};
 use l2_tree::{
-    AssignmentOperator, BinaryOperator, Continuation, MemberOperator, Opening, UnaryOperator,
-    UpdateOperator,
+    AssignmentOperator, BinaryOperator, Continuation, MemberOperator, Opening, Specifier, SpecifierWord,
+    UnaryOperator, UpdateOperator,
 };
 
 fn unary_of(mark: Mark) -> Option<UnaryOperator>
@@ -129,6 +130,70 @@ pub fn continuation_of(kind: TokenKind) -> Option<Continuation>
 {
     match kind {
         TokenKind::Mark(mark) => continuation_mark(mark),
+        _ => None,
+    }
+}
+
+fn word_of(mark: Mark) -> Option<SpecifierWord>
+    ensures { result ≡ word_of mark }
+{
+    match mark {
+        Mark::Static => Some(SpecifierWord::Static),
+        Mark::Extern => Some(SpecifierWord::Extern),
+        Mark::Const => Some(SpecifierWord::Const),
+        Mark::Signed => Some(SpecifierWord::Signed),
+        Mark::Unsigned => Some(SpecifierWord::Unsigned),
+        Mark::Bool => Some(SpecifierWord::Bool),
+        Mark::Char => Some(SpecifierWord::Char),
+        Mark::Short => Some(SpecifierWord::Short),
+        Mark::Int => Some(SpecifierWord::Int),
+        Mark::Long => Some(SpecifierWord::Long),
+        Mark::Void => Some(SpecifierWord::Void),
+        _ => None,
+    }
+}
+
+/// The specifier of this token alone, if it is one.
+pub fn simple_of(kind: TokenKind, place: Place) -> Option<Specifier>
+    ensures { perhaps_specifier result ≡ simple_of kind place }
+{
+    match kind {
+        TokenKind::TypeName(name) => Some(Specifier::TypeName(name, place)),
+        TokenKind::Mark(mark) => match word_of(mark) {
+            Some(word) => Some(Specifier::Word(word, place)),
+            None => None,
+        },
+        TokenKind::Word(_) | TokenKind::Number { .. } | TokenKind::Text | TokenKind::End => None,
+    }
+}
+
+fn is_specifier_mark(mark: Mark) -> bool
+    ensures { result ≡ is_specifier_mark mark }
+{
+    match mark {
+        Mark::Struct => true,
+        Mark::Enum => true,
+        _ => word_of(mark).is_some(),
+    }
+}
+
+/// Whether a specifier begins with this token.
+pub fn is_specifier(kind: TokenKind) -> bool
+    ensures { result ≡ is_specifier kind }
+{
+    match kind {
+        TokenKind::TypeName(_) => true,
+        TokenKind::Mark(mark) => is_specifier_mark(mark),
+        TokenKind::Word(_) | TokenKind::Number { .. } | TokenKind::Text | TokenKind::End => false,
+    }
+}
+
+/// The number of the name that this token is, if it is one.
+pub fn name_of(kind: TokenKind) -> Option<u32>
+    ensures { result ≡ word_number kind }
+{
+    match kind {
+        TokenKind::Word(name) => Some(name),
         _ => None,
     }
 }

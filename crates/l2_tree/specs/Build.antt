@@ -1,6 +1,6 @@
 -- The typed tree of a construct, from its parts: its tokens and the constructs in it, in their order. What a construct begins with says
 -- what it is; no state of the grammar's networks is needed.
-use Rattle.std.specs.Prelude.{ℕ, ℤ, Bool, true, false, cond, not, ◌&&◌, ◌||◌, List, [], ◌∷◌, ◌++◌, Option, Some, None, is_some}
+use Rattle.std.specs.Prelude.{ℕ, Bool, true, false, cond, not, ◌&&◌, List, [], ◌∷◌, ◌++◌, Option, Some, None, is_some}
 use Rattle.l2_syntax.specs.declared.place.Place.{Place}
 use Rattle.l2_syntax.specs.declared.token.Mark.{Mark}
 use Rattle.l2_syntax.specs.declared.token.Mark.TheVariants as mark
@@ -10,9 +10,7 @@ use Rattle.l2_grammar.specs.Marks.{is}
 use Rattle.l2_grammar.specs.Trees.{Tree, begin, token, child}
 use Rattle.l2_tree.specs.declared.operators.UnaryOperator.{UnaryOperator}
 use Rattle.l2_tree.specs.declared.operators.UnaryOperator.TheVariants as unary
-use Rattle.l2_tree.specs.declared.operators.UpdateOperator.{UpdateOperator}
 use Rattle.l2_tree.specs.declared.operators.UpdateOperator.TheVariants as update
-use Rattle.l2_tree.specs.declared.operators.MemberOperator.{MemberOperator}
 use Rattle.l2_tree.specs.declared.operators.MemberOperator.TheVariants as member
 use Rattle.l2_tree.specs.declared.operators.BinaryOperator.{BinaryOperator}
 use Rattle.l2_tree.specs.declared.operators.BinaryOperator.TheVariants as binary
@@ -38,6 +36,8 @@ use Rattle.l2_tree.specs.Trees.{ExprTree, Name, Number, Text, Parenthesised, Ind
 pub record Built : Type 0 where
   -- it begins with a specifier
   pub typed : Bool
+  -- it is the name of a type in parentheses
+  pub bracketed : Bool
   pub expr : Option ExprTree
   pub type_name : Option (Place × ParameterTree)
   pub parameter : Option ParameterTree
@@ -249,9 +249,8 @@ cast p t (node d ∷ ps) = and_then t (λ x. and_then d.expr (λ a. tail (Cast p
 cast p t ps = None
 
 -- behind `sizeof` and what stands behind it: the name of a type in parentheses, or else an expression
-abbrev pub sized : Place → Option (Place × ParameterTree) → Option ExprTree → List Part → Option ExprTree
-sized p (Some t) e ps = tail (SizeofType p t.0 t.1) ps
-sized p None e ps = and_then e (λ a. tail (Sizeof p a) ps)
+abbrev pub sized : Place → Built → List Part → Option ExprTree
+sized p c ps = cond c.bracketed (and_then c.type_name (λ t. tail (SizeofType p t.0 t.1) ps)) (and_then c.expr (λ a. tail (Sizeof p a) ps))
 
 -- behind the token with which an expression begins
 abbrev pub opened : Opening → Place → List Part → Option ExprTree
@@ -260,7 +259,7 @@ opened (opening.Number v y) p ps = tail (Number v y p) ps
 opened opening.Text p ps = tail (Text p) ps
 opened (opening.Unary o) p (node c ∷ ps) = and_then c.expr (λ a. tail (Unary o p a) ps)
 opened (opening.Update o) p (node c ∷ ps) = and_then c.expr (λ a. tail (Update o p a) ps)
-opened opening.Sizeof p (node c ∷ ps) = sized p c.type_name c.expr ps
+opened opening.Sizeof p (node c ∷ ps) = sized p c ps
 opened opening.Parenthesis p (node c ∷ leaf k q ∷ ps) = on_mark mark.CloseParenthesis k (cond c.typed (cast p c.parameter ps) (and_then c.expr (λ e. tail (Parenthesised p e) ps)))
 opened o p ps = None
 
@@ -407,9 +406,13 @@ parameter_behind xs ps = None
 abbrev pub parameter_of : List Part → Option ParameterTree
 parameter_of ps = and_then (specifiers None ps) (λ f. parameter_behind f.0 f.1)
 
--- the name of a type in parentheses
+-- whether these parts are the name of a type in parentheses
+abbrev pub brackets : List Part → Bool
+brackets (leaf k p ∷ node c ∷ leaf l q ∷ []) = is mark.OpenParenthesis k && (is mark.CloseParenthesis l && c.typed)
+brackets ps = false
+
 abbrev pub type_name_of : List Part → Option (Place × ParameterTree)
-type_name_of (leaf k p ∷ node c ∷ leaf l q ∷ []) = on_mark mark.OpenParenthesis k (on_mark mark.CloseParenthesis l (and_then c.parameter (λ t. Some (p, t))))
+type_name_of (leaf k p ∷ node c ∷ ps) = and_then c.parameter (λ t. Some (p, t))
 type_name_of ps = None
 
 abbrev mutual
@@ -614,7 +617,7 @@ unit_of ps = externals [] ps
 -- ---- constructs from the inside outwards
 
 abbrev pub built : List Part → Built
-built ps = record { typed = specifies ps; expr = expr_of ps; type_name = type_name_of ps; parameter = parameter_of ps; declarator = declarator_of ps; initialiser = initialiser_of ps; declaration = declaration_of ps; stmt = stmt_of ps; external = external_of ps }
+built ps = record { typed = specifies ps; bracketed = brackets ps; expr = expr_of ps; type_name = type_name_of ps; parameter = parameter_of ps; declarator = declarator_of ps; initialiser = initialiser_of ps; declaration = declaration_of ps; stmt = stmt_of ps; external = external_of ps }
 
 -- the parts of a concrete tree, and then more
 abbrev pub parts_before : Tree → List Part → List Part
