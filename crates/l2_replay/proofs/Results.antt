@@ -1,5 +1,5 @@
 -- What a function did, where its last call did the rest.
-use Rattle.std.proofs.Common.{◌≡◌, true, false, not, Bool, ℤ, ℕ, [], ◌∷◌, Result, Ok, Err, ap, sym, subst, ◌∙◌}
+use Rattle.std.proofs.Common.{◌≡◌, true, false, not, ℤ, ℕ, Result, Ok, Err, ap, sym, subst, ◌∙◌}
 use Rattle.std.specs.Result.{IsErr, IsErrAnd}
 use Rattle.l2_bits.specs.declared.types.Ty.{Ty}
 use Rattle.l2_runs.specs.declared.operators.BinaryOperator.{BinaryOperator}

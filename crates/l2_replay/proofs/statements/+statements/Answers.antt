@@ -1,5 +1,4 @@
-use Rattle.std.proofs.Common.{◌≡◌, true, None, ◌+◌, ◌*◌, ◌<◌, length, get_or, drop, sym, ap, ◌∙◌, arith, subst}
-use Rattle.std.proofs.lemmas.List.{drop_more}
+use Rattle.std.proofs.Common.{true, None, ◌+◌, drop, sym, ap, ◌∙◌, arith, subst}
 use Rattle.l2_runs.specs.Runs.{Run, on_go, done}
 use Rattle.l2_program.specs.declared.checked.Checked.{Checked}
 use Rattle.l2_program.specs.Checked.{Block, typed_tree, checked_tree, checked_trees}
