@@ -1,21 +1,21 @@
 -- Executions of a program, and what it is to be safe.
-use Rattle.std.specs.Prelude.{◌≡◌, ℕ, suc, ◌+◌, ◌-◌, ◌==◌, ℤ, pos, Bool, true, false, if◌then◌else◌, List, [], ◌∷◌, length, map, codes, slice_index_or, slice_get, Option, Some, None}
-use Rattle.std.specs.List.{filter}
+use Rattle.std.specs.Prelude.{ℕ, zero, suc, ◌+◌, ◌-◌, ℤ, pos, Bool, true, false, if◌then◌else◌, List, [], ◌∷◌, length, map, take, drop, codes, slice_index_or, Option, Some, None}
 use Rattle.std.specs.Str.{bytes_eq}
 use Rattle.l2_syntax.specs.declared.token.Name.{Name}
 use Rattle.l2_runs.specs.declared.cells.CellType.{CellType}
 use Rattle.l2_runs.specs.declared.cells.CellType.TheVariants.{Integer, Pointer}
 use Rattle.l2_runs.specs.declared.cells.CellValue.{CellValue}
 use Rattle.l2_runs.specs.declared.cells.CellValue.TheVariants.{Number, Invalid}
+use Rattle.l2_runs.specs.declared.outcome.Outcome.TheVariants.{Ended, Stopped, Broken, OutOfChoices, OutOfTurns}
+use Rattle.l2_runs.specs.Numbers.{at_number}
+use Rattle.l2_runs.specs.Store.{Object, Store}
+use Rattle.l2_runs.specs.Fits.{Layout}
+use Rattle.l2_runs.specs.Runs.{End, Over, Fallen, Result, Go, Halt, Run, and_then, done, stop, enliven, bury_all}
+use Rattle.l2_runs.specs.Loops.{Limit, Real, Tests, no_tests}
 use Rattle.l2_program.specs.declared.program.ObjectInfo.{ObjectInfo}
 use Rattle.l2_program.specs.declared.program.StaticValue.{StaticValue}
 use Rattle.l2_program.specs.Programs.{ProgramTree, FunctionTree}
-use Rattle.l2_runs.specs.declared.outcome.Outcome.{Outcome}
-use Rattle.l2_runs.specs.declared.outcome.Outcome.TheVariants.{Ended, Stopped, Broken, OutOfChoices, OutOfTurns}
-use Rattle.l2_runs.specs.Store.{Object, Store}
-use Rattle.l2_runs.specs.Runs.{State, End, Over, Fallen, Result, Go, Halt, Run, and_then, done, over}
-use Rattle.l2_runs.specs.Loops.{Limit, Real, Tests, no_tests}
-use Rattle.l2_meaning.specs.Meaning.{Setting, act, declare}
+use Rattle.l2_meaning.specs.Meaning.{Value, Ending, Next, Broke, Continued, Returned, Jumping, Calls, Setting, first_of, put, fresh, act, declare}
 
 -- ---- the start
 
@@ -24,34 +24,73 @@ abbrev pub first_cell : CellType → CellValue
 first_cell (Integer ty) = Number (pos 0)
 first_cell Pointer = Invalid
 
--- the values of a static object's cells; they stand by object and offset
-abbrev pub static_cells : List StaticValue → ℕ → List CellValue
-static_cells values n = map (λ (s : StaticValue). s.value) (filter (λ (s : StaticValue). s.object == n) values)
+abbrev pub value_in : StaticValue → CellValue
+value_in s = s.value
 
--- an object of static storage is live and holds its values; every other one is dead
-abbrev pub first_object : List StaticValue → ℕ → ObjectInfo → Object
-first_object values n o =
-    if o.is_static then record { cells = static_cells values n; live = true } else record { cells = map first_cell o.cells; live = false }
+-- an object of static storage is live and holds the first of these values
+abbrev pub static_object : ObjectInfo → List StaticValue → Object
+static_object o values = record { cells = map value_in (take (length o.cells) values); live = true }
 
-abbrev pub first_objects : List StaticValue → ℕ → List ObjectInfo → Store
-first_objects values n [] = []
-first_objects values n (o ∷ rest) = first_object values n o ∷ first_objects values (suc n) rest
+-- every other one is dead
+abbrev pub dead_object : ObjectInfo → Object
+dead_object o = record { cells = map first_cell o.cells; live = false }
+
+-- the static values stand by object and offset, so each static object takes the next ones
+abbrev pub first_objects : List StaticValue → List ObjectInfo → Store
+first_objects values [] = []
+first_objects values (o ∷ rest) =
+    if o.is_static then static_object o values ∷ first_objects (drop (length o.cells) values) rest
+    else dead_object o ∷ first_objects values rest
 
 abbrev pub first_store : ProgramTree → Store
-first_store p = first_objects p.static_values 1 p.objects
+first_store p = first_objects p.static_values p.objects
 
--- ---- executions
+-- ---- calls
 
 abbrev pub known_cells : Option ObjectInfo → List CellType
 known_cells None = []
 known_cells (Some o) = o.cells
 
--- the cells of an object
-abbrev pub cells_of : ProgramTree → ℕ → List CellType
-cells_of p n = known_cells (slice_get p.objects (n - 1))
+-- the cells of each object
+abbrev pub cells_of : ProgramTree → Layout
+cells_of p n = known_cells (at_number p.objects n)
 
+-- each parameter becomes live and takes its argument
+abbrev pub pass : List ℕ → List Value → Run (Unit {0})
+pass [] vs = done tt
+pass (n ∷ ns) [] = and_then (enliven n) (λ u. pass ns [])
+pass (n ∷ ns) (v ∷ vs) = and_then (enliven n) (λ u. and_then (put (first_of n) v) (λ u. pass ns vs))
+
+-- a value made like an object without an initialiser
+abbrev pub fresh_value : List CellType → Run Value
+fresh_value [] = done []
+fresh_value (t ∷ types) = and_then (fresh t) (λ v. and_then (fresh_value types) (λ vs. done (v ∷ vs)))
+
+-- what a function gives whose body is left so
+abbrev pub returned : FunctionTree → Ending → Run Value
+returned f (Returned v) = done v
+returned f Next = fresh_value f.result
+returned f Broke = fresh_value f.result
+returned f Continued = fresh_value f.result
+returned f (Jumping l) = fresh_value f.result
+
+-- the parameters live during the call
+abbrev pub call : Setting → Bool → Option FunctionTree → List Value → Run Value
+call g b None vs = stop
+call g b (Some f) vs =
+    and_then (pass f.parameters vs) (λ u. and_then (act g b f.body) (λ e. and_then (bury_all f.parameters) (λ u. returned f e)))
+
+-- calls that are nested at most so deep
+abbrev pub calls_of : ProgramTree → Limit → Tests → ℕ → Calls
+calls_of p limit tests zero b f vs = stop
+calls_of p limit tests (suc depth) b f vs =
+    call (record { limit = limit; tests = tests; is_main = false; cells = cells_of p; calls = calls_of p limit tests depth }) b (at_number p.functions f) vs
+
+-- ---- executions
+
+-- the body of `main`: without recursion calls nest at most as deep as there are functions
 abbrev pub setting_of : ProgramTree → Limit → Tests → Setting
-setting_of p limit tests = record { limit = limit; tests = tests; is_main = true; cells = cells_of p }
+setting_of p limit tests = record { limit = limit; tests = tests; is_main = true; cells = cells_of p; calls = calls_of p limit tests (length p.functions) }
 
 abbrev pub name_of : List Name → ℕ → List ℕ
 name_of names n = (slice_index_or names n (record { bytes = [] })).bytes

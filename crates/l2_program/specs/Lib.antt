@@ -1,3 +1,5 @@
 pub mod Checked
+pub mod Types
+pub mod Names
 pub mod Kinds
 pub mod Programs

@@ -1,17 +1,19 @@
 -- How large a tree is: what the interpreter's recursion goes down in.
 use Rattle.std.proofs.Common.{◌≡◌, ℕ, zero, suc, ◌+◌, ◌<◌, ◌≤◌, List, [], ◌∷◌, length, get_or, ap, arith}
 use Rattle.l2_program.specs.declared.checked.Checked.{Checked}
-use Rattle.l2_program.specs.Checked.{CheckedTree, Block, Declare, Initialise, Evaluate, If, IfElse, While, Return, CheckedTrees, none, more, checked_tree, checked_trees}
+use Rattle.l2_program.specs.Checked.{CheckedTree, Block, Declare, Static, Initialise, Label, Evaluate, If, IfElse, While, Return, CheckedTrees, none, more, checked_tree, checked_trees}
 
 abbrev mutual
   pub weight : CheckedTree → ℕ
   weight (Block all) = 1 + weights all
   weight (Declare n) = 1
+  weight (Static n) = 1
   weight (Initialise n e) = 1
+  weight (Label n) = 1
   weight (Evaluate e) = 1
   weight (If e s) = 1 + weight s
   weight (IfElse e s t) = 1 + (weight s + weight t)
-  weight (While l e s) = 1 + weight s
+  weight (While l named e s) = 1 + weight s
   weight (Return e) = 1
 
   pub weights : CheckedTrees → ℕ

@@ -7,3 +7,10 @@ pub struct Replay {
     pub choices_used: u64,
     pub turns_used: u64,
 }
+
+/// Why the interpreter goes no further: the execution is over, or memory is wanting.
+#[derive(Clone, Copy, Debug, PartialEq, Eq)]
+pub enum Fault {
+    Over(Outcome),
+    NoMemory,
+}

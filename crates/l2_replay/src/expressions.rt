@@ -1,15 +1,23 @@
-// Trees.
-ghost use Rattle.std.specs.Prelude.{◌≡◌, true, IfOk, IfErr};
-ghost use Rattle.l2_program.specs.Checked.{typed_tree};
-ghost use Rattle.l2_runs.specs.Runs.{Go, Over, Halt};
-ghost use Rattle.l2_meaning.specs.Meaning.{value, put, fill, number_of, holds};
-ghost use Rattle.l2_replay.specs.Reach.{value_of, lvalue_address, setting};
+// Expressions.
+ghost use Rattle.std.specs.Prelude.{◌≡◌, true, [], ◌∷◌, IfOk};
+ghost use Rattle.l2_bits.specs.Values.{IsValue};
+ghost use Rattle.l2_runs.specs.declared.cells.CellType.TheVariants.{Integer};
+ghost use Rattle.l2_runs.specs.declared.cells.CellValue.TheVariants.{Number};
+ghost use Rattle.l2_runs.specs.Fits.{CellFits, CellsFit, FitsAt};
+ghost use Rattle.l2_runs.specs.Runs.{Go, check};
+ghost use Rattle.l2_runs.specs.Store.{with_cell};
+ghost use Rattle.l2_program.specs.Checked.{typed_tree, Object, Read};
+ghost use Rattle.l2_program.specs.Types.{type_of};
+ghost use Rattle.l2_meaning.specs.Meaning.{value, put, first_of, fresh, fill, number, number_of, holds};
+ghost use Rattle.l2_meaning.specs.Lawful.{IsTyped};
+ghost use Rattle.l2_replay.specs.Reach.{value_of, Does, setting, layout, Fits};
 
+use crate::answer::Fault;
 use crate::machine::Machine;
-use crate::operators::{binary, unary};
-use l2_bits::wrap;
+use crate::operators::{binary, binary_overflows, unary, unary_overflows};
+use l2_bits::{Ty, convert, wrap};
 use l2_program::{Lvalue, Program, Typed};
-use l2_runs::{Outcome, CellType, CellValue};
+use l2_runs::{CellType, CellValue, Outcome};
 
 /// What an expression gives.
 #[derive(Clone, Copy)]
@@ -18,11 +26,20 @@ pub enum Value {
     Scalar(CellValue),
 }
 
-/// How a statement is left.
-#[derive(Clone, Copy)]
-pub enum Ending {
-    Next,
-    Returned(Value),
+/// The number that an integer expression's value is.
+fn integer_of(p: &Program, ty: Ty, e: &Typed, v: Value) -> i128
+    requires integer { type_of (typed_tree e.now) ≡ Integer ty ∷ [] }
+    requires typed { CellsFit (layout p.now) (type_of (typed_tree e.now)) (value_of v) }
+    ensures is { value_of v ≡ number result }
+    ensures value { IsValue ty result }
+{
+    match v {
+        Value::Scalar(CellValue::Number(z)) => z,
+        Value::Scalar(CellValue::Null) => 0,
+        Value::Scalar(CellValue::Invalid) => 0,
+        Value::Scalar(CellValue::At { .. }) => 0,
+        Value::Nothing => 0,
+    }
 }
 
 /// The number that a value is, or 0.
@@ -31,7 +48,10 @@ fn number_of(v: Value) -> i128
 {
     match v {
         Value::Scalar(CellValue::Number(z)) => z,
-        _ => 0,
+        Value::Scalar(CellValue::Null) => 0,
+        Value::Scalar(CellValue::Invalid) => 0,
+        Value::Scalar(CellValue::At { .. }) => 0,
+        Value::Nothing => 0,
     }
 }
 
@@ -42,90 +62,141 @@ pub fn holds(v: Value) -> bool
     match v {
         Value::Scalar(CellValue::Number(z)) => z != 0,
         Value::Scalar(CellValue::At { .. }) => true,
-        _ => false,
+        Value::Scalar(CellValue::Null) => false,
+        Value::Scalar(CellValue::Invalid) => false,
+        Value::Nothing => false,
     }
 }
 
-/// Gives a variable a value.
-fn put(m: &mut Machine, l: &Lvalue, v: Value)
-    ensures { put (lvalue_address l.now) (value_of v) m.old ≡ Go tt m.new }
+/// A check of this number, 0 where there is none.
+fn check(m: &Machine, c: u32, ok: bool) -> Result<(), Fault>
+    ensures { Does (λ u. tt) (check true c ok) m.now m.now result }
 {
-    let Lvalue::Object(n) = l;
-    put_at(m, *n, v);
+    if c == 0 || ok {
+        Ok(())
+    } else {
+        Err(Fault::Over(Outcome::Broken(c)))
+    }
 }
 
-/// Gives an object a value from its first cell on.
-pub fn put_at(m: &mut Machine, n: u32, v: Value)
-    ensures { put (record { object = n; offset = 0 }) (value_of v) m.old ≡ Go tt m.new }
+/// What a variable of this type holds.
+fn read(m: &Machine, p: &Program, n: u32, ty: CellType) -> CellValue
+    requires fits { Fits p.now m.now }
+    requires cell { layout p.now n ≡ ty ∷ [] }
+    ensures is { value (setting p.now) true (Read ty (Object n)) m.now ≡ Go (result ∷ []) m.now }
+    ensures typed { CellFits (layout p.now) ty result }
+{
+    m.read(n, 0)
+}
+
+/// Gives a cell of an object a value of its type.
+fn write(m: &mut Machine, p: &Program, n: u32, offset: usize, v: CellValue)
+    requires fits { Fits p.now m.old }
+    requires typed { FitsAt (layout p.now) (layout p.now n) offset v }
+    ensures is { m.new ≡ record m.old { store = with_cell m.old.store (record { object = n; offset = offset }) v } }
+    ensures fits { Fits p.now m.new }
+{
+    m.write(n, offset, v);
+}
+
+/// Gives an object the value of an expression of its type.
+pub fn put(m: &mut Machine, p: &Program, n: u32, e: &Typed, v: Value)
+    requires fits { Fits p.now m.old }
+    requires same { layout p.now n ≡ type_of (typed_tree e.now) }
+    requires typed { CellsFit (layout p.now) (type_of (typed_tree e.now)) (value_of v) }
+    ensures is { put (first_of n) (value_of v) m.old ≡ Go tt m.new }
+    ensures fits { Fits p.now m.new }
 {
     if let Value::Scalar(c) = v {
-        m.write(n, 0, c);
+        write(m, p, n, 0, c);
     }
+}
+
+/// The number that an integer expression gives.
+#[cycle(expressions)]
+#[tactic(auto, using(crate::proofs::Steps::steps))]
+fn operand(m: &mut Machine, p: &Program, ty: Ty, e: &Typed) -> Result<i128, Fault>
+    requires fits { Fits p.now m.old }
+    requires typed { IsTyped (layout p.now) (typed_tree e.now) }
+    requires integer { type_of (typed_tree e.now) ≡ Integer ty ∷ [] }
+    ensures does { Does number (value (setting p.now) true (typed_tree e.now)) m.old m.new result }
+    ensures fits { Fits p.now m.new }
+    ensures value { IfOk result (λ z. IsValue ty z) }
+{
+    let v = eval(m, p, e)?;
+    Ok(integer_of(p, ty, e, v))
 }
 
 /// The value of an expression.
+#[cycle(expressions)]
 #[tactic(auto, using(crate::proofs::Steps::steps))]
-pub fn eval(m: &mut Machine, p: &Program, e: &Typed) -> Result<Value, Outcome>
-    ensures ok { IfOk result (λ v. value (setting p.now) true (typed_tree e.now) m.old ≡ Go (value_of v) m.new) }
-    ensures err { IfErr result (λ o. value (setting p.now) true (typed_tree e.now) m.old ≡ Halt (Over o) m.new) }
+pub fn eval(m: &mut Machine, p: &Program, e: &Typed) -> Result<Value, Fault>
+    requires fits { Fits p.now m.old }
+    requires typed { IsTyped (layout p.now) (typed_tree e.now) }
+    ensures does { Does value_of (value (setting p.now) true (typed_tree e.now)) m.old m.new result }
+    ensures fits { Fits p.now m.new }
+    ensures typed { IfOk result (λ v. CellsFit (layout p.now) (type_of (typed_tree e.now)) (value_of v)) }
 {
     match e {
-        Typed::Constant(v) => Ok(Value::Scalar(*v)),
-        Typed::Choice(ty) => match m.choose() {
-            Ok(c) => Ok(Value::Scalar(CellValue::Number(wrap(*ty, c)))),
-            Err(o) => Err(o),
-        },
-        Typed::Read(Lvalue::Object(n)) => Ok(Value::Scalar(m.read(*n, 0))),
-        Typed::Unary(op, ty, e) => match eval(m, p, e) {
-            Ok(v) => Ok(Value::Scalar(CellValue::Number(unary(*op, *ty, number_of(v))))),
-            Err(o) => Err(o),
-        },
-        Typed::Binary(op, ty, x, y) => match eval(m, p, x) {
-            Ok(v) => match eval(m, p, y) {
-                Ok(w) => Ok(Value::Scalar(CellValue::Number(binary(
-                    *op,
-                    *ty,
-                    number_of(v),
-                    number_of(w),
-                )))),
-                Err(o) => Err(o),
-            },
-            Err(o) => Err(o),
-        },
-        Typed::Assign(l, e) => match eval(m, p, e) {
-            Ok(v) => {
-                put(m, l, v);
-                Ok(v)
-            }
-            Err(o) => Err(o),
-        },
-        Typed::Assert(c, e) => match eval(m, p, e) {
-            Ok(v) => {
-                if holds(v) {
-                    Ok(Value::Nothing)
-                } else {
-                    Err(Outcome::Broken(*c))
-                }
-            }
-            Err(o) => Err(o),
-        },
+        Typed::Constant(_, v) => Ok(Value::Scalar(*v)),
+        Typed::Choice(ty) => {
+            let c = m.choose()?;
+            Ok(Value::Scalar(CellValue::Number(wrap(*ty, c))))
+        }
+        Typed::Read(ty, Lvalue::Object(n)) => Ok(Value::Scalar(read(m, p, *n, *ty))),
+        Typed::Unary(op, ty, c, e) => {
+            let a = operand(m, p, *ty, e)?;
+            check(m, *c, !unary_overflows(*op, *ty, a))?;
+            Ok(Value::Scalar(CellValue::Number(unary(*op, *ty, a))))
+        }
+        Typed::Binary(op, ty, c, x, y) => {
+            let a = operand(m, p, *ty, x)?;
+            let b = operand(m, p, *ty, y)?;
+            check(m, *c, !binary_overflows(*op, *ty, a, b))?;
+            Ok(Value::Scalar(CellValue::Number(binary(*op, *ty, a, b))))
+        }
+        Typed::Convert(ty, e) => {
+            let v = eval(m, p, e)?;
+            Ok(Value::Scalar(CellValue::Number(convert(*ty, number_of(v)))))
+        }
+        Typed::Assign(_, Lvalue::Object(n), e) => {
+            let v = eval(m, p, e)?;
+            put(m, p, *n, e, v);
+            Ok(v)
+        }
+        Typed::Assert(c, e) => {
+            let v = eval(m, p, e)?;
+            check(m, *c, holds(v))?;
+            Ok(Value::Nothing)
+        }
     }
 }
 
-/// Gives the cells of an object, from `offset` on, what they hold without an initialiser.
-pub fn fill(m: &mut Machine, n: u32, types: &[CellType]) -> Result<(), Outcome>
-    ensures ok { IfOk result (λ u. fill n 0 types.now m.old ≡ Go tt m.new) }
-    ensures err { IfErr result (λ o. fill n 0 types.now m.old ≡ Halt (Over o) m.new) }
+/// A value of a cell that is not initialised.
+fn fresh(m: &mut Machine, p: &Program, ty: CellType) -> Result<CellValue, Fault>
+    ensures does { Does (λ v. v) (fresh ty) m.old m.new result }
+    ensures store { m.new.store ≡ m.old.store }
+    ensures typed { IfOk result (λ v. CellFits (layout p.now) ty v) }
+{
+    match ty {
+        CellType::Integer(ty) => {
+            let c = m.choose()?;
+            Ok(CellValue::Number(wrap(ty, c)))
+        }
+        CellType::Pointer => Ok(CellValue::Invalid),
+    }
+}
+
+/// Gives the cells of an object what they hold without an initialiser.
+pub fn fill(m: &mut Machine, p: &Program, n: u32, types: &[CellType]) -> Result<(), Fault>
+    requires fits { Fits p.now m.old }
+    requires cells { types.now ≡ layout p.now n }
+    ensures does { Does (λ u. tt) (fill n 0 types.now) m.old m.new result }
+    ensures fits { Fits p.now m.new }
 {
     for i in 0..types.len() {
-        let value = match types[i] {
-            CellType::Integer(ty) => match m.choose() {
-                Ok(c) => CellValue::Number(wrap(ty, c)),
-                Err(o) => return Err(o),
-            },
-            CellType::Pointer => CellValue::Invalid,
-        };
-        m.write(n, i, value);
+        let v = fresh(m, p, types[i])?;
+        write(m, p, n, i, v);
     }
     Ok(())
 }

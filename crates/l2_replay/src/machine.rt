@@ -1,10 +1,13 @@
 // The state of an execution.
-ghost use Rattle.std.specs.Prelude.{◌≡◌, ◌-◌, pos, length, slice_index_or, slice_set, IfOk, IfErr};
+ghost use Rattle.std.specs.Prelude.{◌≡◌, pos, true, false, length, slice_index_or, slice_set};
 ghost use Rattle.l2_runs.specs.declared.cells.CellValue.TheVariants.{Number};
-ghost use Rattle.l2_runs.specs.Runs.{choose, read, write, enliven, bury, Go, Over, Halt};
+ghost use Rattle.l2_runs.specs.Store.{cell_at, with_cell, with_live};
+ghost use Rattle.l2_runs.specs.Runs.{choose};
 ghost use Rattle.l2_runs.specs.Loops.{spend};
+ghost use Rattle.l2_replay.specs.Reach.{Does};
 
-use l2_runs::{Outcome, CellValue};
+use crate::answer::Fault;
+use l2_runs::{CellValue, Outcome, index_of};
 use std::marker::Model;
 
 /// An object's cells, and whether it is live.
@@ -74,13 +77,6 @@ impl<'a> Model for Machine<'a> {
     ghost invariant = { λ m. m.used ≤ length m.choices.now };
 }
 
-/// Where an object of this number stands in the store.
-fn index_of(object: u32) -> usize
-    ensures { result ≡ object - 1 }
-{
-    object.saturating_sub(1) as usize
-}
-
 impl<'a> Machine<'a> {
     pub fn new(store: Vec<ObjectState>, choices: &'a [i128], turns: u64) -> Machine<'a>
         ensures { result ≡ record { store = store.items; choices = choices.now; turns = turns; arrivals = 0 } }
@@ -94,26 +90,26 @@ impl<'a> Machine<'a> {
     }
 
     /// The next choice.
-    pub fn choose(&mut self) -> Result<i128, Outcome>
-        ensures ok { IfOk result (λ c. choose self.old ≡ Go c self.new) }
-        ensures err { IfErr result (λ o. choose self.old ≡ Halt (Over o) self.new) }
+    pub fn choose(&mut self) -> Result<i128, Fault>
+        ensures does { Does (λ c. c) choose self.old self.new result }
+        ensures store { self.new.store ≡ self.old.store }
     {
         if self.used < self.choices.len() {
             let c = self.choices[self.used];
             self.used += 1;
             Ok(c)
         } else {
-            Err(Outcome::OutOfChoices)
+            Err(Fault::Over(Outcome::OutOfChoices))
         }
     }
 
     /// An arrival at a loop's head.
-    pub fn arrive(&mut self) -> Result<(), Outcome>
-        ensures ok { IfOk result (λ u. spend self.old ≡ Go u self.new) }
-        ensures err { IfErr result (λ o. spend self.old ≡ Halt (Over o) self.new) }
+    pub fn arrive(&mut self) -> Result<(), Fault>
+        ensures does { Does (λ u. tt) spend self.old self.new result }
+        ensures store { self.new.store ≡ self.old.store }
     {
         if self.turns == 0 {
-            Err(Outcome::OutOfTurns)
+            Err(Fault::Over(Outcome::OutOfTurns))
         } else {
             self.turns -= 1;
             Ok(())
@@ -135,42 +131,51 @@ impl<'a> Machine<'a> {
     }
 
     pub fn read(&self, object: u32, offset: usize) -> CellValue
-        ensures { read (record { object = object; offset = offset }) self.now ≡ Go result self.now }
+        ensures { result ≡ cell_at self.now.store (record { object = object; offset = offset }) }
     {
-        let i = index_of(object);
-        if i < self.store.len() {
-            self.store[i].cell(offset)
-        } else {
-            CellValue::Number(0)
+        match index_of(object) {
+            Some(i) => {
+                if i < self.store.len() {
+                    self.store[i].cell(offset)
+                } else {
+                    CellValue::Number(0)
+                }
+            }
+            None => CellValue::Number(0),
         }
     }
 
     pub fn write(&mut self, object: u32, offset: usize, value: CellValue)
-        ensures { write (record { object = object; offset = offset }) value self.old ≡ Go tt self.new }
+        ensures { self.new ≡ record self.old { store = with_cell self.old.store (record { object = object; offset = offset }) value } }
     {
-        let i = index_of(object);
-        if i < self.store.len() {
-            self.store[i].set_cell(offset, value);
+        if let Some(i) = index_of(object) {
+            if i < self.store.len() {
+                self.store[i].set_cell(offset, value);
+            }
         }
     }
 
     /// An object's declaration is reached.
     pub fn enliven(&mut self, object: u32)
-        ensures { enliven object self.old ≡ Go tt self.new }
+        ensures { self.new ≡ record self.old { store = with_live self.old.store object true } }
     {
-        let i = index_of(object);
-        if i < self.store.len() {
-            self.store[i].set_live(true);
-        }
+        self.set_live(object, true);
     }
 
     /// An object's block is left.
     pub fn bury(&mut self, object: u32)
-        ensures { bury object self.old ≡ Go tt self.new }
+        ensures { self.new ≡ record self.old { store = with_live self.old.store object false } }
     {
-        let i = index_of(object);
-        if i < self.store.len() {
-            self.store[i].set_live(false);
+        self.set_live(object, false);
+    }
+
+    fn set_live(&mut self, object: u32, live: bool)
+        ensures { self.new ≡ record self.old { store = with_live self.old.store object live } }
+    {
+        if let Some(i) = index_of(object) {
+            if i < self.store.len() {
+                self.store[i].set_live(live);
+            }
         }
     }
 }

@@ -1,17 +1,18 @@
-ghost use Rattle.std.specs.Prelude.{◌≡◌, ◌≤◌, ◌<◌, ◌^◌, true, length, map, MatchOption, IfOk, IfErr, Option, Some, codes, option_map};
+ghost use Rattle.std.specs.Prelude.{◌≡◌, map, Some, codes, option_map, IfOk};
 ghost use Rattle.std.specs.Str.{bytes_eq};
-ghost use Rattle.l2_program.specs.Programs.{program_tree, function_tree};
-ghost use Rattle.l2_runs.specs.Runs.{Go, Over, Halt};
 ghost use Rattle.l2_runs.specs.Loops.{Real, no_tests};
+ghost use Rattle.l2_program.specs.Programs.{program_tree, function_tree};
+ghost use Rattle.l2_program.specs.Checked.{checked_tree};
 ghost use Rattle.l2_meaning.specs.Execution.{exec, name_of, main_among, declare_all, enter, run_program};
-ghost use Rattle.l2_replay.specs.Reach.{setting, execution_of};
+ghost use Rattle.l2_meaning.specs.Lawful.{IsLawful};
+ghost use Rattle.l2_replay.specs.Reach.{Does, setting, Fits, IsTypedIn, execution_of};
 
-use crate::answer::Replay;
+use crate::answer::{Fault, Replay};
 use crate::machine::Machine;
 use crate::start::first_store;
 use crate::statements::{act, declare};
-use l2_runs::Outcome;
 use l2_program::{FunctionInfo, Program};
+use l2_runs::Outcome;
 use l2_syntax::Name;
 use std::alloc::{AllocError, Global};
 
@@ -38,36 +39,35 @@ fn main_among<'a>(names: &[Name], functions: &'a [FunctionInfo]) -> Option<&'a F
 }
 
 /// The parameters of a function become live and take choices.
-fn declare_all(m: &mut Machine, p: &Program, ns: &[u32]) -> Result<(), Outcome>
-    ensures ok { IfOk result (λ u. declare_all (setting p.now) ns.now m.old ≡ Go tt m.new) }
-    ensures err { IfErr result (λ o. declare_all (setting p.now) ns.now m.old ≡ Halt (Over o) m.new) }
+#[tactic(auto, using(crate::proofs::Steps::steps))]
+fn declare_all(m: &mut Machine, p: &Program, ns: &[u32]) -> Result<(), Fault>
+    requires { Fits p.now m.old }
+    ensures does { Does (λ u. tt) (declare_all (setting p.now) ns.now) m.old m.new result }
+    ensures fits { Fits p.now m.new }
 {
     for i in 0..ns.len() {
-        if let Err(o) = declare(m, p, ns[i]) {
-            return Err(o);
-        }
+        declare(m, p, ns[i])?;
     }
     Ok(())
 }
 
 /// Runs `main`.
-fn enter(m: &mut Machine, p: &Program, f: &FunctionInfo) -> Result<(), Outcome>
-    ensures ok { IfOk result (λ u. enter (setting p.now) (Some (function_tree f.now)) m.old ≡ Go tt m.new) }
-    ensures err { IfErr result (λ o. enter (setting p.now) (Some (function_tree f.now)) m.old ≡ Halt (Over o) m.new) }
+#[tactic(auto, using(crate::proofs::Steps::steps))]
+fn enter(m: &mut Machine, p: &Program, f: &FunctionInfo) -> Result<(), Fault>
+    requires fits { Fits p.now m.old }
+    requires typed { IsTypedIn p.now (checked_tree f.now.body) }
+    ensures { Does (λ u. tt) (enter (setting p.now) (Some (function_tree f.now))) m.old m.new result }
 {
-    match declare_all(m, p, f.parameters.as_slice()) {
-        Ok(()) => match act(m, p, &f.body) {
-            Ok(_) => Ok(()),
-            Err(o) => Err(o),
-        },
-        Err(o) => Err(o),
-    }
+    declare_all(m, p, f.parameters.as_slice())?;
+    act(m, p, &f.body)?;
+    Ok(())
 }
 
 /// Runs a program.
-fn run_program(m: &mut Machine, p: &Program) -> Result<(), Outcome>
-    ensures ok { IfOk result (λ u. run_program (program_tree p.now) Real no_tests m.old ≡ Go tt m.new) }
-    ensures err { IfErr result (λ o. run_program (program_tree p.now) Real no_tests m.old ≡ Halt (Over o) m.new) }
+fn run_program(m: &mut Machine, p: &Program) -> Result<(), Fault>
+    requires lawful { IsLawful (program_tree p.now) }
+    requires fits { Fits p.now m.old }
+    ensures { Does (λ u. tt) (run_program (program_tree p.now) Real no_tests) m.old m.new result }
 {
     match main_among(p.names.as_slice(), p.functions.as_slice()) {
         Some(f) => enter(m, p, f),
@@ -82,12 +82,14 @@ pub fn replay(
     choices: &[i128],
     turns: u64,
 ) -> Result<Replay, AllocError>
+    requires { IsLawful (program_tree program.now) }
     ensures { IfOk result (λ r. execution_of r ≡ exec (program_tree program.now) Real no_tests choices.now turns) }
 {
     let mut m = Machine::new(first_store(alloc, program)?, choices, turns);
     let outcome = match run_program(&mut m, program) {
         Ok(()) => Outcome::Ended,
-        Err(o) => o,
+        Err(Fault::Over(o)) => o,
+        Err(Fault::NoMemory) => return Err(AllocError),
     };
     Ok(Replay {
         outcome,

@@ -1,8 +1,7 @@
 // The store at the start.
-ghost use Rattle.std.specs.Prelude.{◌≡◌, ◌==◌, ℕ, map, IfOk};
-ghost use Rattle.l2_runs.specs.declared.cells.CellType.{CellType};
+ghost use Rattle.std.specs.Prelude.{◌≡◌, map, take, drop, length, IfOk};
 ghost use Rattle.l2_program.specs.Programs.{program_tree};
-ghost use Rattle.l2_meaning.specs.Execution.{first_cell, static_cells, first_object, first_objects, first_store};
+ghost use Rattle.l2_meaning.specs.Execution.{first_cell, value_in, static_object, dead_object, first_store};
 
 use crate::machine::ObjectState;
 use l2_program::{ObjectInfo, Program, StaticValue};
@@ -18,58 +17,67 @@ fn first_cell(ty: CellType) -> CellValue
     }
 }
 
-/// The cells of an object before it is live.
-fn first_cells(alloc: Global, types: &[CellType]) -> Result<Vec<CellValue>, AllocError>
-    ensures { IfOk result (λ v. v.items ≡ map first_cell types.now) }
+/// An object that isn't static, before it is live.
+fn dead_object(alloc: Global, o: &ObjectInfo) -> Result<ObjectState, AllocError>
+    ensures { IfOk result (λ r. r ≡ dead_object o.now) }
 {
     let mut cells = Vec::new(alloc);
-    for ty in types {
+    for ty in o.cells.as_slice() {
         cells.push(first_cell(*ty))?;
     }
-    Ok(cells)
+    Ok(ObjectState::new(cells, false))
 }
 
-/// What the cells of a static object hold at the start.
-fn static_cells(
+/// The first values, at most so many.
+fn first_values(values: &[StaticValue], count: usize) -> &[StaticValue]
+    ensures { result.now ≡ take count values.now }
+{
+    if count < values.len() {
+        &values[..count]
+    } else {
+        values
+    }
+}
+
+/// The values behind the first ones.
+fn later_values(values: &[StaticValue], count: usize) -> &[StaticValue]
+    ensures { result.now ≡ drop count values.now }
+{
+    if count < values.len() {
+        &values[count..]
+    } else {
+        &[]
+    }
+}
+
+/// An object of static storage, which holds the first of these values.
+fn static_object(
     alloc: Global,
+    o: &ObjectInfo,
     values: &[StaticValue],
-    n: usize,
-) -> Result<Vec<CellValue>, AllocError>
-    ensures { IfOk result (λ v. v.items ≡ static_cells values.now n) }
+) -> Result<ObjectState, AllocError>
+    ensures { IfOk result (λ r. r ≡ static_object o.now values.now) }
 {
     let mut cells = Vec::new(alloc);
-    for s in values {
-        if s.object as usize == n {
-            cells.push(s.value)?;
-        }
+    for s in first_values(values, o.cells.as_slice().len()) {
+        cells.push(s.value)?;
     }
-    Ok(cells)
+    Ok(ObjectState::new(cells, true))
 }
 
-fn first_object(
-    alloc: Global,
-    values: &[StaticValue],
-    n: usize,
-    o: &ObjectInfo,
-) -> Result<ObjectState, AllocError>
-    ensures { IfOk result (λ r. r ≡ first_object values.now n o.now) }
-{
-    if o.is_static {
-        Ok(ObjectState::new(static_cells(alloc, values, n)?, true))
-    } else {
-        Ok(ObjectState::new(first_cells(alloc, o.cells.as_slice())?, false))
-    }
-}
-
-/// The store in which an execution starts.
+/// The store in which an execution starts. The static values are read in one pass.
 pub fn first_store(alloc: Global, p: &Program) -> Result<Vec<ObjectState>, AllocError>
     ensures { IfOk result (λ store. store.items ≡ first_store (program_tree p.now)) }
 {
-    let objects = p.objects.as_slice();
-    let values = p.static_values.as_slice();
+    let mut values = p.static_values.as_slice();
     let mut store = Vec::new(alloc);
-    for i in 0..objects.len() {
-        store.push(first_object(alloc, values, i + 1, &objects[i])?)?;
+    for o in p.objects.as_slice() {
+        if o.is_static {
+            store.push(static_object(alloc, o, values)?)?;
+            values = later_values(values, o.cells.as_slice().len());
+        } else {
+            store.push(dead_object(alloc, o)?)?;
+        }
     }
     Ok(store)
 }

@@ -1,58 +1,93 @@
 // Statements.
-ghost use Rattle.std.specs.Prelude.{◌≡◌, true, IfOk, IfErr};
+ghost use Rattle.std.specs.Prelude.{◌≡◌, true, None, if◌then◌else◌};
+ghost use Rattle.l2_runs.specs.Runs.{enliven, bury, bury_all, Go};
 ghost use Rattle.l2_program.specs.Checked.{typed_tree, checked_tree, checked_trees, Block, Initialise};
-ghost use Rattle.l2_runs.specs.Runs.{Go, Over, Halt, bury_all};
-ghost use Rattle.l2_meaning.specs.Meaning.{value, act, act_all, declare, declared, while_turn, tree_loop};
-ghost use Rattle.l2_replay.specs.Reach.{ending_of, ending_option, setting};
+ghost use Rattle.l2_program.specs.Types.{type_of};
+ghost use Rattle.l2_meaning.specs.Meaning.{Next, value, act, act_all, declare, declared, while_turn, tree_loop};
+ghost use Rattle.l2_meaning.specs.Lawful.{IsTyped};
+ghost use Rattle.l2_replay.specs.Reach.{Does, turn_end, setting, layout, Fits, IsTypedIn, AreTypedIn};
 
-use crate::expressions::{Ending, eval, fill, holds, put_at};
+use crate::answer::Fault;
+use crate::expressions::{eval, fill, holds, put};
 use crate::machine::Machine;
 use l2_program::{Checked, Program, Typed};
-use l2_runs::{Outcome, CellType};
+use l2_runs::{CellType, Outcome, index_of};
 
 /// The cells of an object.
 fn cells_of(p: &Program, n: u32) -> &[CellType]
-    ensures { result.now ≡ (setting p.now).cells n }
+    ensures { result.now ≡ layout p.now n }
 {
-    match p.objects.as_slice().get(n.saturating_sub(1) as usize) {
-        Some(o) => o.cells.as_slice(),
+    match index_of(n) {
+        Some(i) => match p.objects.as_slice().get(i) {
+            Some(o) => o.cells.as_slice(),
+            None => &[],
+        },
         None => &[],
     }
 }
 
-/// A declaration without an initialiser.
-pub fn declare(m: &mut Machine, p: &Program, n: u32) -> Result<(), Outcome>
-    ensures ok { IfOk result (λ u. declare (setting p.now) n m.old ≡ Go tt m.new) }
-    ensures err { IfErr result (λ o. declare (setting p.now) n m.old ≡ Halt (Over o) m.new) }
+/// An object's declaration is reached.
+fn enliven(m: &mut Machine, p: &Program, n: u32)
+    requires { Fits p.now m.old }
+    ensures is { enliven n m.old ≡ Go tt m.new }
+    ensures fits { Fits p.now m.new }
 {
     m.enliven(n);
-    fill(m, n, cells_of(p, n))
+}
+
+/// An object's block is left.
+fn bury(m: &mut Machine, p: &Program, n: u32)
+    requires { Fits p.now m.old }
+    ensures is { bury n m.old ≡ Go tt m.new }
+    ensures fits { Fits p.now m.new }
+{
+    m.bury(n);
+}
+
+/// A declaration without an initialiser.
+#[tactic(auto, using(crate::proofs::Steps::steps))]
+pub fn declare(m: &mut Machine, p: &Program, n: u32) -> Result<(), Fault>
+    requires { Fits p.now m.old }
+    ensures does { Does (λ u. tt) (declare (setting p.now) n) m.old m.new result }
+    ensures fits { Fits p.now m.new }
+{
+    enliven(m, p, n);
+    fill(m, p, n, cells_of(p, n))
 }
 
 /// A declaration with its initialiser.
-fn initialise(m: &mut Machine, p: &Program, n: u32, e: &Typed) -> Result<Ending, Outcome>
-    ensures ok { IfOk result (λ f. act (setting p.now) true (Initialise n (typed_tree e.now)) m.old ≡ Go (ending_of f) m.new) }
-    ensures err { IfErr result (λ o. act (setting p.now) true (Initialise n (typed_tree e.now)) m.old ≡ Halt (Over o) m.new) }
+#[tactic(auto, using(crate::proofs::Steps::steps))]
+fn initialise(m: &mut Machine, p: &Program, n: u32, e: &Typed) -> Result<(), Fault>
+    requires fits { Fits p.now m.old }
+    requires typed { IsTyped (layout p.now) (typed_tree e.now) }
+    requires same { layout p.now n ≡ type_of (typed_tree e.now) }
+    ensures does { Does (λ u. Next) (act (setting p.now) true (Initialise n (typed_tree e.now))) m.old m.new result }
+    ensures fits { Fits p.now m.new }
 {
-    m.enliven(n);
-    match eval(m, p, e) {
-        Ok(v) => {
-            put_at(m, n, v);
-            Ok(Ending::Next)
-        }
-        Err(o) => Err(o),
-    }
+    enliven(m, p, n);
+    let v = eval(m, p, e)?;
+    put(m, p, n, e, v);
+    Ok(())
 }
 
 /// The objects that are declared among these items die.
-fn bury_declared(m: &mut Machine, all: &[Checked])
-    ensures { bury_all (declared (checked_trees all.now)) m.old ≡ Go tt m.new }
+fn bury_declared(m: &mut Machine, p: &Program, all: &[Checked])
+    requires { Fits p.now m.old }
+    ensures is { bury_all (declared (checked_trees all.now)) m.old ≡ Go tt m.new }
+    ensures fits { Fits p.now m.new }
 {
     for s in all {
         match s {
-            Checked::Declare(n) => m.bury(*n),
-            Checked::Initialise(n, _) => m.bury(*n),
-            _ => {}
+            Checked::Declare(n) => bury(m, p, *n),
+            Checked::Initialise(n, _) => bury(m, p, *n),
+            Checked::Block(_) => {}
+            Checked::Static(_) => {}
+            Checked::Label(_) => {}
+            Checked::Evaluate(_) => {}
+            Checked::If(_, _) => {}
+            Checked::IfElse(_, _, _) => {}
+            Checked::While(_, _, _, _) => {}
+            Checked::Return(_) => {}
         }
     }
 }
@@ -60,114 +95,100 @@ fn bury_declared(m: &mut Machine, all: &[Checked])
 /// What a statement does.
 #[cycle(statements)]
 #[tactic(auto, using(crate::proofs::Steps::steps))]
-pub fn act(m: &mut Machine, p: &Program, s: &Checked) -> Result<Ending, Outcome>
-    ensures ok { IfOk result (λ f. act (setting p.now) true (checked_tree s.now) m.old ≡ Go (ending_of f) m.new) }
-    ensures err { IfErr result (λ o. act (setting p.now) true (checked_tree s.now) m.old ≡ Halt (Over o) m.new) }
+pub fn act(m: &mut Machine, p: &Program, s: &Checked) -> Result<(), Fault>
+    requires fits { Fits p.now m.old }
+    requires typed { IsTypedIn p.now (checked_tree s.now) }
+    ensures does { Does (λ u. Next) (act (setting p.now) true (checked_tree s.now)) m.old m.new result }
+    ensures fits { Fits p.now m.new }
 {
     match s {
         Checked::Block(all) => block(m, p, all),
-        Checked::Declare(n) => match declare(m, p, *n) {
-            Ok(()) => Ok(Ending::Next),
-            Err(o) => Err(o),
-        },
+        Checked::Declare(n) => declare(m, p, *n),
+        Checked::Static(_) => Ok(()),
         Checked::Initialise(n, e) => initialise(m, p, *n, e),
-        Checked::Evaluate(e) => match eval(m, p, e) {
-            Ok(_) => Ok(Ending::Next),
-            Err(o) => Err(o),
-        },
-        Checked::If(e, s) => match eval(m, p, e) {
-            Ok(v) => {
-                if holds(v) {
-                    act(m, p, s)
-                } else {
-                    Ok(Ending::Next)
-                }
-            }
-            Err(o) => Err(o),
-        },
-        Checked::IfElse(e, s, t) => match eval(m, p, e) {
-            Ok(v) => { if holds(v) { act(m, p, s) } else { act(m, p, t) } }
-            Err(o) => Err(o),
-        },
-        Checked::While(_, e, s) => repeat(m, p, e, s),
-        Checked::Return(e) => match eval(m, p, e) {
-            Ok(_) => Err(Outcome::Ended),
-            Err(o) => Err(o),
-        },
+        Checked::Label(_) => Ok(()),
+        Checked::Evaluate(e) => {
+            eval(m, p, e)?;
+            Ok(())
+        }
+        Checked::If(e, s) => {
+            let v = eval(m, p, e)?;
+            if holds(v) { act(m, p, s) } else { Ok(()) }
+        }
+        Checked::IfElse(e, s, t) => {
+            let v = eval(m, p, e)?;
+            if holds(v) { act(m, p, s) } else { act(m, p, t) }
+        }
+        Checked::While(l, _, e, s) => repeat(m, p, *l, e, s),
+        Checked::Return(e) => {
+            eval(m, p, e)?;
+            Err(Fault::Over(Outcome::Ended))
+        }
     }
 }
 
 /// What a block does.
 #[cycle(statements)]
 #[tactic(auto, using(crate::proofs::Steps::steps))]
-fn block(m: &mut Machine, p: &Program, all: &[Checked]) -> Result<Ending, Outcome>
-    ensures ok { IfOk result (λ f. act (setting p.now) true (Block (checked_trees all.now)) m.old ≡ Go (ending_of f) m.new) }
-    ensures err { IfErr result (λ o. act (setting p.now) true (Block (checked_trees all.now)) m.old ≡ Halt (Over o) m.new) }
+fn block(m: &mut Machine, p: &Program, all: &[Checked]) -> Result<(), Fault>
+    requires fits { Fits p.now m.old }
+    requires typed { AreTypedIn p.now (checked_trees all.now) }
+    ensures does { Does (λ u. Next) (act (setting p.now) true (Block (checked_trees all.now))) m.old m.new result }
+    ensures fits { Fits p.now m.new }
 {
-    match act_each(m, p, all) {
-        Ok(f) => {
-            bury_declared(m, all);
-            Ok(f)
-        }
-        Err(o) => Err(o),
-    }
+    act_each(m, p, all)?;
+    bury_declared(m, p, all);
+    Ok(())
 }
 
 /// What statements do, one after another.
 #[cycle(statements)]
 #[tactic(auto, using(crate::proofs::Steps::steps))]
-fn act_each(m: &mut Machine, p: &Program, all: &[Checked]) -> Result<Ending, Outcome>
-    ensures ok { IfOk result (λ f. act_all (setting p.now) true (checked_trees all.now) m.old ≡ Go (ending_of f) m.new) }
-    ensures err { IfErr result (λ o. act_all (setting p.now) true (checked_trees all.now) m.old ≡ Halt (Over o) m.new) }
+fn act_each(m: &mut Machine, p: &Program, all: &[Checked]) -> Result<(), Fault>
+    requires fits { Fits p.now m.old }
+    requires typed { AreTypedIn p.now (checked_trees all.now) }
+    ensures does { Does (λ u. Next) (act_all (setting p.now) true None (checked_trees all.now)) m.old m.new result }
+    ensures fits { Fits p.now m.new }
 {
     for s in all {
-        match act(m, p, s) {
-            Ok(Ending::Next) => {}
-            Ok(Ending::Returned(v)) => return Ok(Ending::Returned(v)),
-            Err(o) => return Err(o),
-        }
+        act(m, p, s)?;
     }
-    Ok(Ending::Next)
+    Ok(())
 }
 
 /// What a `while` does: one turn an arrival at its head.
 #[cycle(statements)]
 #[tactic(auto, using(crate::proofs::Steps::steps))]
-fn repeat(m: &mut Machine, p: &Program, e: &Typed, s: &Checked) -> Result<Ending, Outcome>
-    ensures ok { IfOk result (λ f. tree_loop (setting p.now) 0 (λ c. while_turn (value (setting p.now) c (typed_tree e.now)) (act (setting p.now) c (checked_tree s.now))) true m.old ≡ Go (ending_of f) m.new) }
-    ensures err { IfErr result (λ o. tree_loop (setting p.now) 0 (λ c. while_turn (value (setting p.now) c (typed_tree e.now)) (act (setting p.now) c (checked_tree s.now))) true m.old ≡ Halt (Over o) m.new) }
+fn repeat(m: &mut Machine, p: &Program, l: u32, e: &Typed, s: &Checked) -> Result<(), Fault>
+    requires fits { Fits p.now m.old }
+    requires test { IsTyped (layout p.now) (typed_tree e.now) }
+    requires body { IsTypedIn p.now (checked_tree s.now) }
+    ensures does { Does (λ u. Next) (tree_loop (setting p.now) l (λ c. while_turn (value (setting p.now) c (typed_tree e.now)) (act (setting p.now) c (checked_tree s.now))) true) m.old m.new result }
+    ensures fits { Fits p.now m.new }
 {
     for turn in 0..m.turns() {
-        if let Err(o) = m.arrive() {
-            return Err(o);
-        }
-        match one_turn(m, p, e, s) {
-            Ok(None) => {}
-            Ok(Some(f)) => return Ok(f),
-            Err(o) => return Err(o),
+        m.arrive()?;
+        if !one_turn(m, p, e, s)? {
+            return Ok(());
         }
     }
-    Err(Outcome::OutOfTurns)
+    Err(Fault::Over(Outcome::OutOfTurns))
 }
 
-/// A turn of a `while`: how the loop is left, or None where it goes on.
+/// A turn of a `while`: whether the next arrival at its head follows.
 #[cycle(statements)]
 #[tactic(auto, using(crate::proofs::Steps::steps))]
-fn one_turn(m: &mut Machine, p: &Program, e: &Typed, s: &Checked) -> Result<Option<Ending>, Outcome>
-    ensures ok { IfOk result (λ o. while_turn (value (setting p.now) true (typed_tree e.now)) (act (setting p.now) true (checked_tree s.now)) m.old ≡ Go (ending_option o) m.new) }
-    ensures err { IfErr result (λ o. while_turn (value (setting p.now) true (typed_tree e.now)) (act (setting p.now) true (checked_tree s.now)) m.old ≡ Halt (Over o) m.new) }
+fn one_turn(m: &mut Machine, p: &Program, e: &Typed, s: &Checked) -> Result<bool, Fault>
+    requires fits { Fits p.now m.old }
+    requires test { IsTyped (layout p.now) (typed_tree e.now) }
+    requires body { IsTypedIn p.now (checked_tree s.now) }
+    ensures does { Does turn_end (while_turn (value (setting p.now) true (typed_tree e.now)) (act (setting p.now) true (checked_tree s.now))) m.old m.new result }
+    ensures fits { Fits p.now m.new }
 {
-    match eval(m, p, e) {
-        Ok(v) => {
-            if !holds(v) {
-                return Ok(Some(Ending::Next));
-            }
-            match act(m, p, s) {
-                Ok(Ending::Next) => Ok(None),
-                Ok(Ending::Returned(v)) => Ok(Some(Ending::Returned(v))),
-                Err(o) => Err(o),
-            }
-        }
-        Err(o) => Err(o),
+    let v = eval(m, p, e)?;
+    if !holds(v) {
+        return Ok(false);
     }
+    act(m, p, s)?;
+    Ok(true)
 }

@@ -1,8 +1,8 @@
 -- Runs: what takes a state to a value and a state, or to an end.
-use Rattle.std.specs.Prelude.{ℕ, suc, zero, ℤ, Bool, true, false, if◌then◌else◌, List, [], ◌∷◌}
+use Rattle.std.specs.Prelude.{ℕ, ℤ, Bool, true, false, ◌||◌, ◌==◌, List, [], ◌∷◌}
 use Rattle.l2_runs.specs.declared.cells.CellValue.{CellValue}
 use Rattle.l2_runs.specs.declared.outcome.Outcome.{Outcome}
-use Rattle.l2_runs.specs.declared.outcome.Outcome.TheVariants.{Ended, Stopped, Broken, OutOfChoices, OutOfTurns}
+use Rattle.l2_runs.specs.declared.outcome.Outcome.TheVariants.{Stopped, Broken, OutOfChoices}
 use Rattle.l2_runs.specs.Store.{Store, Address, cell_at, with_cell, with_live}
 
 -- the store, the choices that are left, the turns that are left to a real run, and a short run's arrivals so far
@@ -82,5 +82,6 @@ abbrev pub demand : Bool → End → Bool → Run (Unit {0})
 demand counted e true s = Go tt s
 demand counted e false s = fail counted e s
 
+-- a check of number 0 is none
 abbrev pub check : Bool → ℕ → Bool → Run (Unit {0})
-check counted c ok = demand counted (Over (Broken c)) ok
+check counted c ok = demand counted (Over (Broken c)) (c == 0 || ok)

@@ -3,9 +3,11 @@
 #![tactic(auto)]
 
 mod cells;
+mod numbers;
 mod operators;
 mod outcome;
 
 pub use cells::{CellType, CellValue};
+pub use numbers::index_of;
 pub use operators::{BinaryOperator, UnaryOperator};
 pub use outcome::Outcome;
