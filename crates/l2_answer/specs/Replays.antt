@@ -1,5 +1,5 @@
 -- What the replay of a text on a values file ends with and prints.
-use Rattle.std.specs.Prelude.{◌≡◌, ◌≢◌, ℕ, ℤ, List, codes}
+use Rattle.std.specs.Prelude.{◌≡◌, ◌≢◌, ℕ, ℤ, List, codes, Some}
 use Rattle.l2_syntax.specs.declared.refusal.Refusal.{Refusal}
 use Rattle.l2_witness.specs.ValuesFile.{InRange, spelling}
 use Rattle.l2_runs.specs.declared.outcome.Outcome.{Outcome}
@@ -18,7 +18,7 @@ pub record Ends (p : ProgramTree) (e : Execution) (status : Status) (line : List
   pub outcome : Outcome
   pub ends : e.end ≡ Over outcome
   pub status_is : status ≡ status_of outcome
-  pub line_is : line ≡ replay_line p.checks outcome e.turns_used e.choices_used
+  pub line_is : replay_line p.checks outcome e.turns_used e.choices_used ≡ Some line
 
 -- the text's program is executed on the choices and the turns of the values file
 pub record Executes (text values : List ℕ) (p : ProgramTree) (e : Execution) : Type 0 where

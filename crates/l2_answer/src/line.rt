@@ -1,12 +1,14 @@
-ghost use Rattle.std.specs.Prelude.{◌≡◌, ◌++◌, codes, decimal, IfOk, OnOk, string_bytes};
+ghost use Rattle.std.specs.Prelude.{◌≡◌, ◌++◌, Some, codes, decimal, IfOk, OnOk, string_bytes};
 ghost use Rattle.l2_program.specs.Kinds.{kind_text};
 ghost use Rattle.l2_syntax.specs.Places.{place_text};
 ghost use Rattle.l2_syntax.specs.Refusals.{rule_text};
-ghost use Rattle.l2_answer.specs.Printed.{outcome_text, broken_text, replay_line, refusal_line};
+ghost use Rattle.l2_answer.specs.Printed.{outcome_text, broken_text, replay_line, refusal_line, ListsBroken};
+ghost use Rattle.l2_runs.specs.Numbers.{at_number};
+ghost use Rattle.l2_meaning.specs.Lawful.{IsSome};
 
-use l2_runs::Outcome;
-use l2_replay::Replay;
 use l2_program::CheckInfo;
+use l2_replay::Replay;
+use l2_runs::{Outcome, index_of};
 use l2_syntax::{Place, Refusal};
 use std::alloc::{AllocError, Global};
 
@@ -18,8 +20,8 @@ fn push_number(alloc: Global, text: &mut String, n: u64) -> Result<(), AllocErro
 }
 
 /// A broken check, by its kind and its place.
-fn check_text(alloc: Global, check: &CheckInfo) -> Result<String, AllocError>
-    ensures { IfOk result (λ s. string_bytes s ≡ codes "BROKEN " ++ kind_text check.now.kind ++ codes " " ++ place_text check.now.place) }
+fn broken_text(alloc: Global, check: &CheckInfo) -> Result<String, AllocError>
+    ensures { IfOk result (λ s. string_bytes s ≡ broken_text check.now) }
 {
     let place = place_text(alloc, check.place)?;
     let mut text = String::from_str(alloc, "BROKEN ")?;
@@ -40,17 +42,26 @@ fn place_text(alloc: Global, place: Place) -> Result<String, AllocError>
     Ok(text)
 }
 
+/// The check of this number.
+fn check_at(checks: &[CheckInfo], number: u32) -> &CheckInfo
+    requires { IsSome (at_number checks.now number) }
+    ensures { at_number checks.now number ≡ Some result.now }
+{
+    match index_of(number) {
+        Some(index) => &checks[index],
+        None => unreachable!(),
+    }
+}
+
 /// How an outcome is printed.
 fn outcome_text(alloc: Global, checks: &[CheckInfo], outcome: Outcome) -> Result<String, AllocError>
-    ensures { IfOk result (λ s. string_bytes s ≡ outcome_text checks.now outcome) }
+    requires { ListsBroken checks.now outcome }
+    ensures { IfOk result (λ s. outcome_text checks.now outcome ≡ Some (string_bytes s)) }
 {
     match outcome {
         Outcome::Ended => String::from_str(alloc, "ENDED"),
         Outcome::Stopped => String::from_str(alloc, "STOPPED"),
-        Outcome::Broken(c) => match checks.get(c.saturating_sub(1) as usize) {
-            Some(check) => check_text(alloc, check),
-            None => String::from_str(alloc, "BROKEN"),
-        },
+        Outcome::Broken(number) => broken_text(alloc, check_at(checks, number)),
         Outcome::OutOfChoices => String::from_str(alloc, "OUT OF CHOICES"),
         Outcome::OutOfTurns => String::from_str(alloc, "OUT OF TURNS"),
     }
@@ -62,7 +73,8 @@ pub fn replay_line(
     checks: &[CheckInfo],
     replay: Replay,
 ) -> Result<String, AllocError>
-    ensures { IfOk result (λ s. string_bytes s ≡ replay_line checks.now replay.outcome replay.turns_used replay.choices_used) }
+    requires { ListsBroken checks.now replay.outcome }
+    ensures { IfOk result (λ s. replay_line checks.now replay.outcome replay.turns_used replay.choices_used ≡ Some (string_bytes s)) }
 {
     let mut text = outcome_text(alloc, checks, replay.outcome)?;
     text.push_str(" turns=")?;

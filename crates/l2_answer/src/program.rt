@@ -1,6 +1,7 @@
 ghost use Rattle.std.specs.Prelude.{◌≡◌, ◌≤◌, length, Some, None, IfOk, IfErr, IsErrOf};
 ghost use Rattle.l2_limits.specs.Limits.{text_limit};
 ghost use Rattle.l2_program.specs.Programs.{program_tree};
+ghost use Rattle.l2_meaning.specs.Lawful.{IsLawful};
 ghost use Rattle.l2_tree.specs.Units.{unit_tree};
 ghost use Rattle.l2_parse_unit.specs.Reading.{OnRefusal};
 ghost use Rattle.l2_answer.specs.Programs.{IsProgram, IsNoProgram, IsRefusalOf, small_program};
@@ -28,6 +29,7 @@ const NOT_BUILT: Refusal = Refusal {
 pub fn program_of(alloc: Global, text: &[u8]) -> Result<Program, TextFault>
     requires { length text.now ≤ text_limit }
     ensures ok { IfOk result (λ p. IsProgram text.now (program_tree p)) }
+    ensures lawful { IfOk result (λ p. IsLawful (program_tree p)) }
     ensures refused { IfErr result (λ e. OnRefusal e (λ f. IsNoProgram text.now × IsRefusalOf text.now f)) }
 {
     refused_law();
@@ -47,6 +49,7 @@ pub fn program_of(alloc: Global, text: &[u8]) -> Result<Program, TextFault>
 /// The program of a unit of the small form.
 fn small_program(alloc: Global, unit: Unit) -> Result<Program, SmallError>
     ensures ok { IfOk result (λ p. small_program (unit_tree unit) ≡ Some (program_tree p)) }
+    ensures lawful { IfOk result (λ p. IsLawful (program_tree p)) }
     ensures not_small { IsErrOf result SmallError.NotSmall → small_program (unit_tree unit) ≡ None }
 {
     match small(alloc, unit) {

@@ -3,11 +3,13 @@ ghost use Rattle.l2_limits.specs.Limits.{text_limit};
 ghost use Rattle.l2_program.specs.Programs.{program_tree};
 ghost use Rattle.l2_runs.specs.Loops.{Real, no_tests};
 ghost use Rattle.l2_meaning.specs.Execution.{exec};
+ghost use Rattle.l2_meaning.specs.Lawful.{IsLawful};
 ghost use Rattle.l2_answer.specs.Replays.{Ends, Replays};
 
 use crate::line::{refusal_line, replay_line};
 use crate::program::program_of;
 use crate::status::{Answer, Status, status_of};
+use l2_meaning::laws::broken_checks_are_listed;
 use l2_program::Program;
 use l2_replay::replay;
 use l2_syntax::TextFault;
@@ -16,9 +18,11 @@ use std::alloc::{AllocError, Global};
 
 /// The answer of a program's execution.
 fn executed(alloc: Global, program: &Program, values: &Values) -> Result<Answer, AllocError>
+    requires { IsLawful (program_tree program.now) }
     ensures { IfOk result (λ a. Ends (program_tree program.now)
         (exec (program_tree program.now) Real no_tests values.now.choices values.now.turns) a.status (string_bytes a.line)) }
 {
+    broken_checks_are_listed();
     let replay = replay(alloc, program, values.choices.as_slice(), values.turns)?;
     Ok(Answer {
         status: status_of(replay.outcome),
