@@ -7,3 +7,5 @@ pub mod BackDeclarations
 pub mod BackExpressions
 pub mod BackStatements
 pub mod Unique
+pub mod Forms
+pub mod FormTokens
