@@ -1,5 +1,5 @@
 -- How a construct that has been read so far goes on with a token.
-use Rattle.std.proofs.Common.{◌≡◌, ◌⊎◌, inl, inr, refl, ◌∙◌, ap, sym, subst, ℕ, Bool, true, false, cond, leb, List, [], ◌∷◌, ◌++◌, Option, None, Some}
+use Rattle.std.proofs.Common.{◌≡◌, inl, inr, refl, ◌∙◌, ap, sym, subst, ℕ, Bool, true, false, cond, leb, List, [], ◌∷◌, ◌++◌, Option, None, Some}
 use Rattle.l2_syntax.specs.declared.place.Place.{Place}
 use Rattle.l2_syntax.specs.declared.token.Mark.{Mark}
 use Rattle.l2_syntax.specs.declared.token.Mark.TheVariants as mark
@@ -22,9 +22,9 @@ use Rattle.l2_grammar.specs.declared.states.Right.TheVariants as right
 use Rattle.l2_grammar.specs.declared.states.State.{State}
 use Rattle.l2_grammar.specs.declared.states.State.TheVariants as st
 use Rattle.l2_grammar.specs.Marks.{is}
-use Rattle.l2_grammar.specs.Networks.{on, on_word, on_token, applied, indexed, wants_left, continued, add_sign, add_core, add_short, add_long, add_word, store, specifier, closed as closed_name, add_to, alone, alone_in, after_type, begun, begun_item, begun_item_in, begun_external, begun_declarator, begun_enclosed, on_end, begun_as, after_declarator, cast_in}
+use Rattle.l2_grammar.specs.Networks.{on, on_word, on_token, applied, indexed, wants_left, continued, add_sign, add_core, add_short, add_long, add_word, store, specifier, closed as closed_name, add_to, alone_in, after_type, begun, begun_item, begun_item_in, begun_external, begun_declarator, begun_enclosed, begun_as, after_declarator, cast_in}
 use Rattle.l2_grammar.specs.Nesting.{stands, is_external}
-use Rattle.l2_grammar.specs.Trees.{Tree, begin, token}
+use Rattle.l2_grammar.specs.Trees.{Tree, begin}
 use Rattle.l2_grammar.proofs.Tokens.{is_mark, none_stands}
 use Rattle.l2_grammar.proofs.Bools.{no}
 use Rattle.l2_tree.specs.declared.operators.UnaryOperator.TheVariants as unary
@@ -32,16 +32,14 @@ use Rattle.l2_tree.specs.declared.operators.UpdateOperator.TheVariants as update
 use Rattle.l2_tree.specs.declared.operators.MemberOperator.TheVariants as member
 use Rattle.l2_tree.specs.declared.operators.BinaryOperator.TheVariants as binary
 use Rattle.l2_tree.specs.declared.operators.AssignmentOperator.TheVariants as assignment
-use Rattle.l2_tree.specs.declared.operators.SpecifierWord.{SpecifierWord}
 use Rattle.l2_tree.specs.declared.operators.SpecifierWord.TheVariants as word
-use Rattle.l2_tree.specs.declared.expression.Tag.{Tag}
 use Rattle.l2_tree.specs.declared.expression.Pointer.{Pointer}
 use Rattle.l2_tree.specs.declared.expression.Pointer.TheVariants as pointer
 use Rattle.l2_tree.proofs.Declarations.{pointers-end}
-use Rattle.l2_tree.specs.Trees.{ExprTree, ParameterTree, Name, Number, Text, Parenthesised, Index, Call, Member, PostUpdate, Sizeof, and_expr, no_exprs, SpecifierTree, Word, TypeName, Struct, StructBody, Enum, EnumBody, SpecifierTrees, first_specifier, and_specifier, EnumeratorTree, Plain, EnumeratorTrees, first_enumerator, and_enumerator, CoreTree, Absent, Named as NamedCore, Group, Array, ArrayOf, Parameters, no_parameters, and_parameter, no_suffixes, and_suffix, Braced, Uninitialised, DeclaredTrees, no_declarators, and_declarator, DeclarationTree, Declaration, no_declarations, NoFirst, FirstExpression, For, StmtTree, Block, Evaluate, Empty, While, Switch, Do, Default, Label, Break, Continue, Return, no_stmts, ExternalTree, Nothing, Global, Typedef, Function}
-use Rattle.l2_tree.specs.Spelling.{nowhere, is_placed, behind, mark_at, closed, within, bracketed, head_onto, run_parameter, run_expr, specifier_onto, specifiers_onto, members_onto, enumerator_onto, enumerators_onto, parameters_onto, declared_onto, declarators_onto, declaration_onto, comma_if, has_declarators, run_declarator, pointers_onto, pointer_onto, core_onto, suffixes_onto, run_stmt, run_external, externals_onto}
+use Rattle.l2_tree.specs.Trees.{ExprTree, ParameterTree, Name, Number, Text, Parenthesised, Index, Call, Member, PostUpdate, and_expr, no_exprs, SpecifierTree, Word, TypeName, Struct, StructBody, Enum, EnumBody, SpecifierTrees, first_specifier, and_specifier, EnumeratorTree, Plain, EnumeratorTrees, CoreTree, Absent, Named as NamedCore, Group, Array, ArrayOf, Parameters, no_parameters, and_parameter, no_suffixes, and_suffix, Braced, Uninitialised, no_declarators, and_declarator, DeclarationTree, Declaration, no_declarations, NoFirst, FirstExpression, For, StmtTree, Block, Evaluate, Empty, While, Switch, Do, Default, Label, Break, Continue, Return, no_stmts, ExternalTree, Nothing, Global, Typedef, Function}
+use Rattle.l2_tree.specs.Spelling.{nowhere, is_placed, behind, mark_at, closed, within, bracketed, head_onto, run_parameter, run_expr, specifier_onto, members_onto, enumerator_onto, enumerators_onto, parameters_onto, declaration_onto, pointers_onto, core_onto, run_stmt, run_external}
 use Rattle.l2_tree.specs.Build.{add_enumerator}
-use Rattle.l2_tree_laws.proofs.Forms.{Front, perhaps_specifiers, Specifying, Specified, TagWord, TagNamed, TagBody, MemberList, next_enumerator, EnumeratorName, EnumeratorEqual, EnumeratorList, EnumeratorComma, Typed, Suffixed, Bracket, SizeList, ParameterList, ParameterComma, next_declared, Declaring, FunctionHead, InitialiserEqual, DeclaredList, DeclaredComma, FunctionBody, Ended, next_branch, Body, Labelling, loop_mark, Form}
+use Rattle.l2_tree_laws.proofs.Forms.{Front, perhaps_specifiers, Specifying, Specified, TagWord, TagNamed, TagBody, MemberList, next_enumerator, EnumeratorName, EnumeratorList, EnumeratorComma, Typed, Suffixed, Declaring, FunctionHead, DeclaredList, DeclaredComma, FunctionBody, Ended, Body, loop_mark, Form}
 
 -- ---- tokens
 
@@ -352,7 +350,7 @@ named_form n p i = record { before = i.before; specifying = i.specifying; place 
 members_close : {s : Sort} {w : Storage} {a : Tree} {p : Place} → MemberList s w a → nowhere ≡ p → Specified s w (mark_at a mark.CloseBrace p)
 members_close i e = more_is (StructBody i.body.place i.body.tag i.body.brace i.list) i.body.specifying (ap (λ z. closed (members_onto z i.list) mark.CloseBrace) i.body.is_it ∙ shut mark.CloseBrace i.is_it e)
 
-enumerators_add : (r : Tree) (o : Option EnumeratorTrees) (x : EnumeratorTree) → enumerators_onto r (add_enumerator o x) ≡ enumerator_onto (next_enumerator r o) x
+pub enumerators_add : (r : Tree) (o : Option EnumeratorTrees) (x : EnumeratorTree) → enumerators_onto r (add_enumerator o x) ≡ enumerator_onto (next_enumerator r o) x
 enumerators_add r None x = refl
 enumerators_add r (Some es) x = refl
 
@@ -396,7 +394,7 @@ one_with s a p m x k h f = go (is m k) refl h
 declared_goes : (s : Sort) (a : Tree) (p : Place) (w : Storage) (b : Bool) (k : TokenKind) → Declaring s w a → (b ≡ true → FunctionHead s a) → stands s (after_declarator w b k) ≡ true → Goes s a p k (after_declarator w b k)
 declared_goes s a p w b k i f h =
     on_goes s a p mark.Equal (st.InitValue w) k _ h
-        (λ e. record { front = i.front; fronts = i.fronts; specifiers = i.specifiers; list = i.list; last = i.last; equal = p; is_it = put (kind.Mark mark.Equal) p i.is_it })
+    (λ e. record { front = i.front; fronts = i.fronts; specifiers = i.specifiers; list = i.list; last = i.last; equal = p; is_it = put (kind.Mark mark.Equal) p i.is_it })
     (λ j. on_goes s a p mark.Comma (st.NextDeclarator w) k _ j (declared_comma (declared_list i))
     (λ l. on_goes s a p mark.Semicolon st.DeclarationEnd k _ l (declared_ends s w a p (declared_list i))
     (λ n. one_with s a p mark.OpenBrace (cond b st.FunctionBlock st.None) k n (λ o e. function_form s a p b o f))))
@@ -476,14 +474,30 @@ token_goes s st.StarsConst a p k f h = begun_declarator_goes s a p true k f.0 f.
 token_goes s (st.Group b) a p k f h = one s a p mark.CloseParenthesis (st.Direct b shape.Nameless) k h (λ e. record { pointers = f.0; core = Absent; list = and_suffix no_suffixes (Parameters f.1 no_parameters); is_it = shut mark.CloseParenthesis f.2 e })
 token_goes s (st.GroupClose b x) a p k f h = one s a p mark.CloseParenthesis (st.Direct b x) k h (λ e. record { pointers = f.0; core = Group f.1 f.2; list = no_suffixes; is_it = shut mark.CloseParenthesis f.3 e })
 token_goes s (st.Direct b x) a p k f h = on_goes s a p mark.OpenBracket (st.Size b x) k _ h (λ e. record { base = a; suffixed = f; place = p; is_it = refl }) (λ j. one s a p mark.OpenParenthesis (st.Parameters b x) k j (λ e. record { base = a; suffixed = f; place = p; is_it = refl }))
-token_goes s (st.Size b x) a p k f h = one s a p mark.CloseBracket (st.Direct b (indexed x)) k h (λ e. record { pointers = f.suffixed.pointers; core = f.suffixed.core; list = and_suffix f.suffixed.list (Array f.place);
-    is_it = ap (λ z. closed (mark_at z mark.OpenBracket f.place) mark.CloseBracket) f.suffixed.is_it ∙ shut mark.CloseBracket f.is_it e })
-token_goes s (st.SizeClose b x) a p k f h = one s a p mark.CloseBracket (st.Direct b (indexed x)) k h (λ e. record { pointers = f.suffixed.pointers; core = f.suffixed.core; list = and_suffix f.suffixed.list (ArrayOf f.place f.length);
-    is_it = ap (λ y. closed (within (mark_at y mark.OpenBracket f.place) (λ z. run_expr z f.length)) mark.CloseBracket) f.suffixed.is_it ∙ shut mark.CloseBracket f.is_it e })
-token_goes s (st.Parameters b x) a p k f h = one s a p mark.CloseParenthesis (st.Direct b (applied x true)) k h (λ e. record { pointers = f.suffixed.pointers; core = f.suffixed.core; list = and_suffix f.suffixed.list (Parameters f.place no_parameters);
-    is_it = ap (λ z. closed (mark_at z mark.OpenParenthesis f.place) mark.CloseParenthesis) f.suffixed.is_it ∙ shut mark.CloseParenthesis f.is_it e })
+token_goes s (st.Size b x) a p k f h = one s a p mark.CloseBracket (st.Direct b (indexed x)) k h (λ e. record {
+  pointers = f.suffixed.pointers;
+  core = f.suffixed.core;
+  list = and_suffix f.suffixed.list (Array f.place);
+  is_it = ap (λ z. closed (mark_at z mark.OpenBracket f.place) mark.CloseBracket) f.suffixed.is_it ∙ shut mark.CloseBracket f.is_it e;
+})
+token_goes s (st.SizeClose b x) a p k f h = one s a p mark.CloseBracket (st.Direct b (indexed x)) k h (λ e. record {
+  pointers = f.suffixed.pointers;
+  core = f.suffixed.core;
+  list = and_suffix f.suffixed.list (ArrayOf f.place f.length);
+  is_it = ap (λ y. closed (within (mark_at y mark.OpenBracket f.place) (λ z. run_expr z f.length)) mark.CloseBracket) f.suffixed.is_it ∙ shut mark.CloseBracket f.is_it e;
+})
+token_goes s (st.Parameters b x) a p k f h = one s a p mark.CloseParenthesis (st.Direct b (applied x true)) k h (λ e. record {
+  pointers = f.suffixed.pointers;
+  core = f.suffixed.core;
+  list = and_suffix f.suffixed.list (Parameters f.place no_parameters);
+  is_it = ap (λ z. closed (mark_at z mark.OpenParenthesis f.place) mark.CloseParenthesis) f.suffixed.is_it ∙ shut mark.CloseParenthesis f.is_it e;
+})
 token_goes s (st.ParametersMore b x now later) a p k f h = on_goes s a p mark.Comma (st.ParametersNext b x later) k _ h
     (λ e. record { base = f.base; suffixed = f.suffixed; place = f.place; list = f.list; last = f.last; is_it = shut mark.Comma f.is_it e })
-    (λ j. one s a p mark.CloseParenthesis (st.Direct b (applied x now)) k j (λ e. record { pointers = f.suffixed.pointers; core = f.suffixed.core; list = and_suffix f.suffixed.list (Parameters f.place (and_parameter f.list f.last));
-    is_it = ap (λ z. closed (parameters_onto (mark_at z mark.OpenParenthesis f.place) (and_parameter f.list f.last)) mark.CloseParenthesis) f.suffixed.is_it ∙ shut mark.CloseParenthesis f.is_it e }))
+    (λ j. one s a p mark.CloseParenthesis (st.Direct b (applied x now)) k j (λ e. record {
+      pointers = f.suffixed.pointers;
+      core = f.suffixed.core;
+      list = and_suffix f.suffixed.list (Parameters f.place (and_parameter f.list f.last));
+      is_it = ap (λ z. closed (parameters_onto (mark_at z mark.OpenParenthesis f.place) (and_parameter f.list f.last)) mark.CloseParenthesis) f.suffixed.is_it ∙ shut mark.CloseParenthesis f.is_it e;
+    }))
 token_goes s q a p k f h = absurd (no_none s h)

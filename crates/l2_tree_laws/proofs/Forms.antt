@@ -1,5 +1,5 @@
 -- What a construct is, as far as it has been read, by the state that it is in.
-use Rattle.std.proofs.Common.{◌≡◌, ◌⊎◌, ℕ, Bool, true, List, Option, None, Some}
+use Rattle.std.proofs.Common.{◌≡◌, ◌⊎◌, ℕ, Bool, true, false, List, Option, None, Some}
 use Rattle.l2_syntax.specs.declared.place.Place.{Place}
 use Rattle.l2_syntax.specs.declared.token.Mark.{Mark}
 use Rattle.l2_syntax.specs.declared.token.Mark.TheVariants as mark
@@ -350,5 +350,5 @@ Made s outcome.Unfinished r = Unit {0}
 Made s outcome.Value r = Value s r
 Made s (outcome.Stated b) r = (t : StmtTree) × (run_stmt s t ≡ r)
 Made s outcome.Declaration r = Ended s r
-Made s (outcome.Specified a v) r = (t : ParameterTree) × (run_parameter s t ≡ r)
+Made s (outcome.Specified a v) r = ends_declaration s ≡ false → (t : ParameterTree) × (run_parameter s t ≡ r)
 Made s (outcome.Declares h) r = (d : DeclaratorTree) × (run_declarator s d ≡ r)

@@ -9,3 +9,5 @@ pub mod BackStatements
 pub mod Unique
 pub mod Forms
 pub mod FormTokens
+pub mod FormChildren
+pub mod Built
