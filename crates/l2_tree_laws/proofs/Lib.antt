@@ -11,3 +11,4 @@ pub mod Forms
 pub mod FormTokens
 pub mod FormChildren
 pub mod Built
+pub mod Firstly

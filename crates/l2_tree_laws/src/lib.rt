@@ -3,8 +3,10 @@
 #![tactic(auto)]
 
 mod laws;
+mod places;
 
 pub use laws::{
     expression_back_law, expression_built_law, expression_run_law, unique_run_law, unique_tree_law,
     unit_back_law, unit_built_law, unit_run_law,
 };
+pub use places::{first_place_law, initialiser_place_law, parameter_place_law, type_place_law};
