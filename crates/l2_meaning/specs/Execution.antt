@@ -1,20 +1,20 @@
 -- Executions of a program, and what it is to be safe.
-use Rattle.std.specs.Prelude.{◌≡◌, ℕ, suc, ◌-◌, ◌==◌, ℤ, pos, Bool, true, false, if◌then◌else◌, List, [], ◌∷◌, length, map, codes, slice_index_or, slice_get, Option, Some, None}
+use Rattle.std.specs.Prelude.{◌≡◌, ℕ, suc, ◌+◌, ◌-◌, ◌==◌, ℤ, pos, Bool, true, false, if◌then◌else◌, List, [], ◌∷◌, length, map, codes, slice_index_or, slice_get, Option, Some, None}
 use Rattle.std.specs.List.{filter}
 use Rattle.std.specs.Str.{bytes_eq}
 use Rattle.l2_syntax.specs.declared.token.Name.{Name}
-use Rattle.l2_syntax.specs.declared.program.CellType.{CellType}
-use Rattle.l2_syntax.specs.declared.program.CellType.TheVariants.{Integer, Pointer}
-use Rattle.l2_syntax.specs.declared.program.CellValue.{CellValue}
-use Rattle.l2_syntax.specs.declared.program.CellValue.TheVariants.{Number, Invalid}
-use Rattle.l2_syntax.specs.declared.program.ObjectInfo.{ObjectInfo}
-use Rattle.l2_syntax.specs.declared.program.StaticValue.{StaticValue}
-use Rattle.l2_syntax.specs.Programs.{ProgramTree, FunctionTree}
-use Rattle.l2_meaning.specs.declared.outcome.Outcome.{Outcome}
-use Rattle.l2_meaning.specs.declared.outcome.Outcome.TheVariants.{Ended, Stopped, Broken, OutOfChoices, OutOfTurns}
-use Rattle.l2_meaning.specs.Store.{Object, Store}
-use Rattle.l2_meaning.specs.Runs.{State, Result, Go, Halt, Run, and_then, done, over}
-use Rattle.l2_meaning.specs.Loops.{Mode, Real}
+use Rattle.l2_runs.specs.declared.cells.CellType.{CellType}
+use Rattle.l2_runs.specs.declared.cells.CellType.TheVariants.{Integer, Pointer}
+use Rattle.l2_runs.specs.declared.cells.CellValue.{CellValue}
+use Rattle.l2_runs.specs.declared.cells.CellValue.TheVariants.{Number, Invalid}
+use Rattle.l2_program.specs.declared.program.ObjectInfo.{ObjectInfo}
+use Rattle.l2_program.specs.declared.program.StaticValue.{StaticValue}
+use Rattle.l2_program.specs.Programs.{ProgramTree, FunctionTree}
+use Rattle.l2_runs.specs.declared.outcome.Outcome.{Outcome}
+use Rattle.l2_runs.specs.declared.outcome.Outcome.TheVariants.{Ended, Stopped, Broken, OutOfChoices, OutOfTurns}
+use Rattle.l2_runs.specs.Store.{Object, Store}
+use Rattle.l2_runs.specs.Runs.{State, End, Over, Fallen, Result, Go, Halt, Run, and_then, done, over}
+use Rattle.l2_runs.specs.Loops.{Limit, Real, Tests, no_tests}
 use Rattle.l2_meaning.specs.Meaning.{Setting, act, declare}
 
 -- ---- the start
@@ -50,8 +50,8 @@ known_cells (Some o) = o.cells
 abbrev pub cells_of : ProgramTree → ℕ → List CellType
 cells_of p n = known_cells (slice_get p.objects (n - 1))
 
-abbrev pub setting_of : ProgramTree → Mode → Setting
-setting_of p mode = record { mode = mode; cells = cells_of p }
+abbrev pub setting_of : ProgramTree → Limit → Tests → Setting
+setting_of p limit tests = record { limit = limit; tests = tests; is_main = true; cells = cells_of p }
 
 abbrev pub name_of : List Name → ℕ → List ℕ
 name_of names n = (slice_index_or names n (record { bytes = [] })).bytes
@@ -70,31 +70,32 @@ abbrev pub enter : Setting → Option FunctionTree → Run (Unit {0})
 enter g None = done tt
 enter g (Some f) = and_then (declare_all g f.parameters) (λ u. and_then (act g true f.body) (λ e. done tt))
 
-abbrev pub run_program : ProgramTree → Mode → Run (Unit {0})
-run_program p mode = enter (setting_of p mode) (main_among p.names p.functions)
+abbrev pub run_program : ProgramTree → Limit → Tests → Run (Unit {0})
+run_program p limit tests = enter (setting_of p limit tests) (main_among p.names p.functions)
 
 -- how an execution is over, and how many choices and turns it used
 pub record Execution : Type 0 where
-  pub outcome : Outcome
+  pub end : End
   pub choices_used : ℕ
   pub turns_used : ℕ
 
 abbrev pub report : List ℤ → ℕ → Result (Unit {0}) → Execution
-report choices turns (Go u s) = record { outcome = Ended; choices_used = length choices - length s.choices; turns_used = turns - s.turns }
-report choices turns (Halt o s) = record { outcome = o; choices_used = length choices - length s.choices; turns_used = turns - s.turns }
+report choices turns (Go u s) = record { end = Over Ended; choices_used = length choices - length s.choices; turns_used = turns - s.turns + s.arrivals }
+report choices turns (Halt e s) = record { end = e; choices_used = length choices - length s.choices; turns_used = turns - s.turns + s.arrivals }
 
--- the execution of a program in a mode on these choices and turns
-abbrev pub exec : ProgramTree → Mode → List ℤ → ℕ → Execution
-exec p mode choices turns =
-    report choices turns (run_program p mode (record { store = first_store p; choices = choices; turns = turns }))
+-- the execution of a program under a limit and tests on these choices and turns
+abbrev pub exec : ProgramTree → Limit → Tests → List ℤ → ℕ → Execution
+exec p limit tests choices turns =
+    report choices turns (run_program p limit tests (record { store = first_store p; choices = choices; turns = turns; arrivals = 0 }))
 
-abbrev pub IsBroken : Outcome → Type 0
-IsBroken Ended = ⊥
-IsBroken Stopped = ⊥
-IsBroken (Broken c) = Unit {0}
-IsBroken OutOfChoices = ⊥
-IsBroken OutOfTurns = ⊥
+abbrev pub IsBroken : End → Type 0
+IsBroken (Over Ended) = ⊥
+IsBroken (Over Stopped) = ⊥
+IsBroken (Over (Broken c)) = Unit {0}
+IsBroken (Over OutOfChoices) = ⊥
+IsBroken (Over OutOfTurns) = ⊥
+IsBroken (Fallen l row) = ⊥
 
 -- no execution, of any length and for any choices, breaks a check
 abbrev pub Safe : ProgramTree → Type 0
-Safe p = (choices : List ℤ) (turns : ℕ) → ¬ IsBroken (exec p Real choices turns).outcome
+Safe p = (choices : List ℤ) (turns : ℕ) → ¬ IsBroken (exec p Real no_tests choices turns).end

@@ -1,6 +1,2 @@
-pub mod Store
-pub mod Runs
-pub mod Loops
-pub mod Operators
 pub mod Meaning
 pub mod Execution

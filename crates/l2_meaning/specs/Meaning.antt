@@ -1,15 +1,16 @@
 -- What a tree does: operands go from left to right, and each effect happens at once.
 use Rattle.std.specs.Prelude.{ℕ, suc, ℤ, pos, Bool, true, false, if◌then◌else◌, List, [], ◌∷◌, Option, Some, None}
 use Rattle.l2_bits.specs.Values.{wrap}
-use Rattle.l2_syntax.specs.declared.program.CellType.{CellType}
-use Rattle.l2_syntax.specs.declared.program.CellType.TheVariants.{Integer, Pointer}
-use Rattle.l2_syntax.specs.declared.program.CellValue.{CellValue}
-use Rattle.l2_syntax.specs.declared.program.CellValue.TheVariants.{Number, Null, Invalid, At}
-use Rattle.l2_syntax.specs.Checked.{LvalueTree, Object, TypedTree, Constant, Choice, Read, Unary, Binary, Assign, Assert, CheckedTree, Block, Declare, Initialise, Evaluate, If, IfElse, While, Return, CheckedTrees, none, more}
-use Rattle.l2_meaning.specs.Store.{Address}
-use Rattle.l2_meaning.specs.Runs.{State, Result, Go, Halt, Run, on_go, and_then, done, over, either, choose, read, write, enliven, bury_all, check}
-use Rattle.l2_meaning.specs.Loops.{Mode, loop_of}
-use Rattle.l2_meaning.specs.Operators.{unary, binary, is_zero}
+use Rattle.l2_runs.specs.declared.cells.CellType.{CellType}
+use Rattle.l2_runs.specs.declared.cells.CellType.TheVariants.{Integer, Pointer}
+use Rattle.l2_runs.specs.declared.cells.CellValue.{CellValue}
+use Rattle.l2_runs.specs.declared.cells.CellValue.TheVariants.{Number, Null, Invalid, At}
+use Rattle.l2_program.specs.Checked.{LvalueTree, Object, TypedTree, Constant, Choice, Read, Unary, Binary, Assign, Assert, CheckedTree, Block, Declare, Initialise, Evaluate, If, IfElse, While, Return, CheckedTrees, none, more}
+use Rattle.l2_runs.specs.declared.outcome.Outcome.TheVariants.{Ended}
+use Rattle.l2_runs.specs.Store.{Address}
+use Rattle.l2_runs.specs.Runs.{State, Result, Go, Halt, Over, Run, on_go, and_then, done, over, either, choose, read, write, enliven, bury_all, check}
+use Rattle.l2_runs.specs.Loops.{Limit, Tests, loop_of}
+use Rattle.l2_runs.specs.Operators.{unary, binary, is_zero}
 
 -- what an expression gives: nothing, a cell's value, or the values of a struct's cells
 pub data Value : Type 0 where
@@ -26,9 +27,11 @@ pub data Ending : Type 0 where
   -- towards a label, by its number
   Jumping : ℕ → Ending
 
--- what a tree's meaning depends on: the mode, and the cells of each object
+-- what a tree's meaning depends on: the limit on loops, the tests at their ends, whether this is the body of `main`, and the cells of each object
 pub record Setting : Type 0 where
-  pub mode : Mode
+  pub limit : Limit
+  pub tests : Tests
+  pub is_main : Bool
   pub cells : ℕ → List CellType
 
 abbrev pub number : ℤ → Value
@@ -126,9 +129,9 @@ abbrev pub while_turn : Run Value → Run Ending → Run (Option Ending)
 while_turn test body = and_then test (λ v. either (holds v) (and_then body (λ e. done (to_turn e))) (done (Some Next)))
 
 -- a tree's loop hands nothing on from turn to turn
-abbrev pub tree_loop : Mode → ℕ → (Bool → Run (Option Ending)) → Bool → Run Ending
-tree_loop mode l turn counted =
-    and_then (loop_of mode l (λ b (u : Unit {0}). and_then (turn b) (λ o. done (tt, o))) counted tt) (λ r. done r.1)
+abbrev pub tree_loop : Setting → ℕ → (Bool → Run (Option Ending)) → Bool → Run Ending
+tree_loop g l turn counted =
+    and_then (loop_of g.limit g.tests l (λ b (u : Unit {0}). and_then (turn b) (λ o. done (tt, o))) counted tt) (λ r. done r.1)
 
 abbrev mutual
   pub act : Setting → Bool → CheckedTree → Run Ending
@@ -139,8 +142,8 @@ abbrev mutual
   act g b (Evaluate e) = and_then (value g b e) (λ v. done Next)
   act g b (If e s) = and_then (value g b e) (λ v. either (holds v) (act g b s) (done Next))
   act g b (IfElse e s t) = and_then (value g b e) (λ v. either (holds v) (act g b s) (act g b t))
-  act g b (While l e s) = tree_loop g.mode l (λ c. while_turn (value g c e) (act g c s)) b
-  act g b (Return e) = and_then (value g b e) (λ v. done (Returned v))
+  act g b (While l e s) = tree_loop g l (λ c. while_turn (value g c e) (act g c s)) b
+  act g b (Return e) = and_then (value g b e) (λ v. either g.is_main (over (Over Ended)) (done (Returned v)))
 
   pub act_all : Setting → Bool → CheckedTrees → Run Ending
   act_all g b none = done Next

@@ -13,7 +13,7 @@ use Rattle.l2_pieces.specs.declared.piece.Front.{Front}
 use Rattle.l2_pieces.specs.declared.piece.Piece.{Piece}
 use Rattle.l2_pieces.specs.Bytes.{is_space, is_letter, is_word_byte, is_number_byte, is_in_line}
 use Rattle.l2_pieces.specs.Punctuators.{Spelling, mark_in, single, double, triple}
-use Rattle.l2_pieces.specs.Fronts.{front_of, closed_comment, is_splice, unspliced, comment, closed_string, string, is_plain_character, is_escaped_character, character, punctuator, longest_punctuator, slash, begins_number, front}
+use Rattle.l2_pieces.specs.Fronts.{front_of, closed_comment, is_splice, unspliced, comment, closed_string, string, is_plain_character, is_escaped_character, character, punctuator, longest_punctuator, slash, begins_number, begins_prefixed, front}
 use Rattle.l2_pieces.specs.Pieces.{behind, behind_all, first_place, is_fault, piece_of, parts}
 use Rattle.l2_pieces.specs.Laws.{Covers, end, fault, piece, line_ends, last_line, CutLaw, PlaceLaw}
 
@@ -197,12 +197,13 @@ sound_run k p text = let h = prefix_len-le-length p text in sound k (1 + prefix_
 sound_front : (b : ℕ) (text : List ℕ) → Sound (front (b ∷ text)) (1 + length text)
 sound_front b text =
     either (is_space b) (front_of kind.Blank (1 + prefix_len is_space text)) f1 n (λ e. sound_run kind.Blank is_space text)
-    (λ e. either (is_letter b) (front_of kind.Word (1 + prefix_len is_word_byte text)) f2 n (λ h. sound_run kind.Word is_word_byte text)
+    (λ e. either (begins_prefixed b text) (front_of (kind.Fault rule.Literal) 1) f0 n (λ q. faulty rule.Literal 1 n)
+    (λ q. either (is_letter b) (front_of kind.Word (1 + prefix_len is_word_byte text)) f2 n (λ h. sound_run kind.Word is_word_byte text)
     (λ h. either (begins_number b text) (front_of kind.Number (1 + prefix_len is_number_byte text)) f3 n (λ g. sound_run kind.Number is_number_byte text)
     (λ g. either (b == 47) (slash text) f4 n (λ e4. sound_slash text)
     (λ e4. either (b == 39) (character text) f5 n (λ e5. sound_character text)
     (λ e5. either (b == 34) (string (closed_string false 1 text)) (longest_punctuator (b ∷ text)) n (λ e6. sound_string (closed_string false 1 text) n (λ m q. string_long m (length text) (string_fits false 1 text m q)))
-    (λ e6. widen (longest_punctuator (b ∷ text)) (sound_longest (b ∷ text))))))))
+    (λ e6. widen (longest_punctuator (b ∷ text)) (sound_longest (b ∷ text)))))))))
   where
     n : ℕ
     n = 1 + length text
@@ -219,8 +220,11 @@ sound_front b text =
     f2 : Front
     f2 = cond (begins_number b text) (front_of kind.Number (1 + prefix_len is_number_byte text)) f3
 
+    f0 : Front
+    f0 = cond (is_letter b) (front_of kind.Word (1 + prefix_len is_word_byte text)) f2
+
     f1 : Front
-    f1 = cond (is_letter b) (front_of kind.Word (1 + prefix_len is_word_byte text)) f2
+    f1 = cond (begins_prefixed b text) (front_of (kind.Fault rule.Literal) 1) f0
 
     widen : (f : Front) → Sound f (length (b ∷ text)) → Sound f (1 + length text)
     widen f s = record { some = s.some; within = λ e. let h = s.within e in omega arith }

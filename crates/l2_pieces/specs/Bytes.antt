@@ -33,6 +33,10 @@ is_plain b = leb b 126 && not (b == 39 || b == 92 || b == 10)
 abbrev pub is_escape : ℕ → Bool
 is_escape b = b == 110 || b == 116 || b == 114 || b == 48 || b == 92 || b == 39 || b == 34
 
+-- what begins a character constant of another form, where a quote stands directly behind it (C11 6.4.4.4): L u U
+abbrev pub is_prefix : ℕ → Bool
+is_prefix b = b == 76 || b == 117 || b == 85
+
 -- the first byte of a text
 abbrev pub begins_with : (ℕ → Bool) → List ℕ → Bool
 begins_with test [] = false

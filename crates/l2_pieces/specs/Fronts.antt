@@ -6,7 +6,7 @@ use Rattle.l2_syntax.specs.declared.refusal.Rule.TheVariants as rule
 use Rattle.l2_pieces.specs.declared.piece.PieceKind.{PieceKind}
 use Rattle.l2_pieces.specs.declared.piece.PieceKind.TheVariants as kind
 use Rattle.l2_pieces.specs.declared.piece.Front.{Front}
-use Rattle.l2_pieces.specs.Bytes.{is_space, is_letter, is_digit, is_word_byte, is_number_byte, is_in_line, is_plain, is_escape, begins_with, is_byte}
+use Rattle.l2_pieces.specs.Bytes.{is_space, is_letter, is_digit, is_word_byte, is_number_byte, is_in_line, is_plain, is_escape, is_prefix, begins_with, is_byte}
 use Rattle.l2_pieces.specs.Punctuators.{mark_in, single, double, triple}
 
 abbrev pub front_of : PieceKind → ℕ → Front
@@ -80,13 +80,18 @@ slash (b ∷ text) =
 abbrev pub begins_number : ℕ → List ℕ → Bool
 begins_number b text = is_digit b || b == 46 && begins_with is_digit text
 
+-- a character constant with a prefix: the word is the prefix alone, and the quote stands directly behind it
+abbrev pub begins_prefixed : ℕ → List ℕ → Bool
+begins_prefixed b text = is_prefix b && begins_with (is_byte 39) text
+
 abbrev pub front : List ℕ → Front
 front [] = front_of kind.Blank 0
 front (b ∷ text) =
     cond (is_space b) (front_of kind.Blank (1 + prefix_len is_space text))
+    (cond (begins_prefixed b text) (front_of (kind.Fault rule.Literal) 1)
     (cond (is_letter b) (front_of kind.Word (1 + prefix_len is_word_byte text))
     (cond (begins_number b text) (front_of kind.Number (1 + prefix_len is_number_byte text))
     (cond (b == 47) (slash text)
     (cond (b == 39) (character text)
     (cond (b == 34) (string (closed_string false 1 text))
-    (longest_punctuator (b ∷ text)))))))
+    (longest_punctuator (b ∷ text))))))))

@@ -1,7 +1,7 @@
 // Classes of bytes, and runs of them.
 ghost use Rattle.std.specs.Prelude.{◌≡◌, ◌≤◌, length};
 ghost use Rattle.std.specs.List.{prefix_len};
-ghost use Rattle.l2_pieces.specs.Bytes.{is_space, is_digit, is_letter, is_word_byte, is_number_byte, is_in_line, is_plain, is_escape, begins_with, is_byte};
+ghost use Rattle.l2_pieces.specs.Bytes.{is_space, is_digit, is_letter, is_word_byte, is_number_byte, is_in_line, is_plain, is_escape, is_prefix, begins_with, is_byte};
 
 pub fn is_space(byte: u8) -> bool
     ensures { result ≡ is_space byte }
@@ -57,6 +57,13 @@ pub fn is_escape(byte: u8) -> bool
         || byte == b'\\'
         || byte == b'\''
         || byte == b'"'
+}
+
+/// What begins a character constant of another form: `L`, `u` or `U`.
+pub fn is_prefix(byte: u8) -> bool
+    ensures { result ≡ is_prefix byte }
+{
+    byte == b'L' || byte == b'u' || byte == b'U'
 }
 
 /// Whether a text begins with this byte.

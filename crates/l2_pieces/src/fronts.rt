@@ -2,11 +2,11 @@
 ghost use Rattle.std.specs.Prelude.{◌≡◌, ◌≤◌, ◌+◌, ◌∷◌, length, Some};
 ghost use Rattle.std.specs.List.{prefix_len};
 ghost use Rattle.l2_pieces.specs.Bytes.{is_space};
-ghost use Rattle.l2_pieces.specs.Fronts.{front, punctuator, longest_punctuator, slash, begins_number};
+ghost use Rattle.l2_pieces.specs.Fronts.{front, punctuator, longest_punctuator, slash, begins_number, begins_prefixed};
 
 use crate::bytes::{
-    begins_with, begins_with_digit, is_digit, is_letter, is_space, line_length, number_length,
-    space_length, word_length,
+    begins_with, begins_with_digit, is_digit, is_letter, is_prefix, is_space, line_length,
+    number_length, space_length, word_length,
 };
 use crate::comments::{closed_comment, comment};
 use crate::cut::front_of;
@@ -70,6 +70,13 @@ fn begins_number(byte: u8, behind: &[u8]) -> bool
     is_digit(byte) || byte == b'.' && begins_with_digit(behind)
 }
 
+/// Whether a character constant with a prefix begins here.
+fn begins_prefixed(byte: u8, behind: &[u8]) -> bool
+    ensures { result ≡ begins_prefixed byte behind.now }
+{
+    is_prefix(byte) && begins_with(behind, b'\'')
+}
+
 /// The longest piece that begins at the first byte of a text.
 pub fn front(text: &[u8]) -> Front
     requires { length text.now ≤ 1048576 }
@@ -86,6 +93,11 @@ pub fn front(text: &[u8]) -> Front
                 Front {
                     kind: PieceKind::Blank,
                     length: 1 + space_length(behind),
+                }
+            } else if begins_prefixed(*first, behind) {
+                Front {
+                    kind: PieceKind::Fault(Rule::Literal),
+                    length: 1,
                 }
             } else if is_letter(*first) {
                 Front {

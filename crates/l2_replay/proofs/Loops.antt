@@ -1,9 +1,9 @@
 -- Where a `while` stands after some of its turns.
-use Rattle.std.proofs.Common.{◌≡◌, ℕ, suc, ◌+◌, ◌-◌, ◌<◌, ◌≤◌, Option, Some, None, refl, sym, ap, ◌∙◌, arith}
-use Rattle.l2_meaning.specs.declared.outcome.Outcome.{Outcome}
-use Rattle.l2_meaning.specs.declared.outcome.Outcome.TheVariants.{OutOfTurns}
-use Rattle.l2_meaning.specs.Runs.{State, Result, Run, Go, Halt, on_go, and_then, done}
-use Rattle.l2_meaning.specs.Loops.{Turn, or_next, arrive, turns}
+use Rattle.std.proofs.Common.{◌≡◌, ℕ, suc, true, List, [], ◌+◌, ◌-◌, ◌<◌, ◌≤◌, Option, Some, None, refl, sym, ap, ◌∙◌, arith}
+use Rattle.l2_runs.specs.declared.outcome.Outcome.{Outcome}
+use Rattle.l2_runs.specs.declared.outcome.Outcome.TheVariants.{OutOfTurns}
+use Rattle.l2_runs.specs.Runs.{State, End, Over, Result, Run, Go, Halt, on_go, and_then, done}
+use Rattle.l2_runs.specs.Loops.{Turn, or_events, tested, or_next, rounds, behind, spend, no_tests}
 use Rattle.l2_meaning.specs.Meaning as meaning
 use Rattle.l2_replay.specs.declared.expressions.Ending.{Ending}
 use Rattle.l2_replay.specs.Reach.{ending_of, ending_option}
@@ -12,28 +12,34 @@ use Rattle.l2_replay.specs.Reach.{ending_of, ending_option}
 abbrev pub plain : Run (Option meaning.Ending) → Turn (Unit {0}) meaning.Ending
 plain turn u = and_then turn (λ o. done (tt, o))
 
+abbrev pub turn_of : Run (Option meaning.Ending) → Turn (Unit {0}) meaning.Ending
+turn_of turn = tested no_tests 0 (λ b. plain turn) true
+
+abbrev pub turns : ℕ → Run (Option meaning.Ending) → Unit {0} → Run (Unit {0} × meaning.Ending)
+turns n turn = rounds (Over OutOfTurns) n (behind spend (turn_of turn))
+
 -- the loop, by how it is left
 abbrev pub left : ℕ → Run (Option meaning.Ending) → Run meaning.Ending
-left n turn = and_then (turns n (plain turn) tt) (λ r. done r.1)
+left n turn = and_then (turns n turn tt) (λ r. done r.1)
 
 module _ (turn : Run (Option meaning.Ending)) (n k : ℕ) (a b : State) (start : n ≡ b.turns) (here : left (n - k) turn a ≡ left n turn b) where
-  one_more : k < n → left b.turns turn b ≡ on_go (on_go (arrive a) (λ u. and_then (plain turn tt) (or_next (turns (n - suc k) (plain turn))))) (λ r. done r.1)
+  one_more : k < n → left b.turns turn b ≡ on_go (on_go (on_go (spend a) (λ u. turn_of turn tt)) (or_next (turns (n - suc k) turn))) (λ r. done r.1)
   one_more h =
       let e : n - k ≡ suc (n - suc k) = omega arith in
       ap (λ j. left j turn b) (sym start) ∙ sym here ∙ ap (λ j. left j turn a) e
 
-  pub no_arrival : k < n → (o : Outcome) (s : State) → arrive a ≡ Halt o s → left b.turns turn b ≡ Halt o s
+  pub no_arrival : k < n → (o : End) (s : State) → spend a ≡ Halt o s → left b.turns turn b ≡ Halt o s
   no_arrival h o s e =
-      one_more h ∙ ap (λ x. on_go (on_go x (λ u. and_then (plain turn tt) (or_next (turns (n - suc k) (plain turn))))) (λ r. done r.1)) e
+      one_more h ∙ ap (λ x. on_go (on_go (on_go x (λ u. turn_of turn tt)) (or_next (turns (n - suc k) turn))) (λ r. done r.1)) e
 
-  module _ (h : k < n) (u : Unit {0}) (c : State) (arrival : arrive a ≡ Go u c) where
-    in_turn : left b.turns turn b ≡ on_go (on_go (on_go (turn c) (λ o. done (tt, o))) (or_next (turns (n - suc k) (plain turn)))) (λ r. done r.1)
-    in_turn = one_more h ∙ ap (λ x. on_go (on_go x (λ u. and_then (plain turn tt) (or_next (turns (n - suc k) (plain turn))))) (λ r. done r.1)) arrival
+  module _ (h : k < n) (u : Unit {0}) (c : State) (arrival : spend a ≡ Go u c) where
+    in_turn : left b.turns turn b ≡ on_go (on_go (on_go (on_go (turn c) (λ o. done (tt, o))) (or_events true 0 [] c.store)) (or_next (turns (n - suc k) turn))) (λ r. done r.1)
+    in_turn = one_more h ∙ ap (λ x. on_go (on_go (on_go x (λ u. turn_of turn tt)) (or_next (turns (n - suc k) turn))) (λ r. done r.1)) arrival
 
-    after : (x : Result (Option meaning.Ending)) → turn c ≡ x → left b.turns turn b ≡ on_go (on_go (on_go x (λ o. done (tt, o))) (or_next (turns (n - suc k) (plain turn)))) (λ r. done r.1)
-    after x e = in_turn ∙ ap (λ x. on_go (on_go (on_go x (λ o. done (tt, o))) (or_next (turns (n - suc k) (plain turn)))) (λ r. done r.1)) e
+    after : (x : Result (Option meaning.Ending)) → turn c ≡ x → left b.turns turn b ≡ on_go (on_go (on_go (on_go x (λ o. done (tt, o))) (or_events true 0 [] c.store)) (or_next (turns (n - suc k) turn))) (λ r. done r.1)
+    after x e = in_turn ∙ ap (λ x. on_go (on_go (on_go (on_go x (λ o. done (tt, o))) (or_events true 0 [] c.store)) (or_next (turns (n - suc k) turn))) (λ r. done r.1)) e
 
-    pub turn_halts : (o : Outcome) (s : State) → turn c ≡ Halt o s → left b.turns turn b ≡ Halt o s
+    pub turn_halts : (o : End) (s : State) → turn c ≡ Halt o s → left b.turns turn b ≡ Halt o s
     turn_halts o s e = after (Halt o s) e
 
     pub turn_leaves : (o : Option Ending) (f : Ending) (s : State) → turn c ≡ Go (ending_option o) s → o ≡ Some f → left b.turns turn b ≡ Go (ending_of f) s
@@ -44,7 +50,7 @@ module _ (turn : Run (Option meaning.Ending)) (n k : ℕ) (a b : State) (start :
         let f : n - (k + 1) ≡ n - suc k = omega arith in
         ap (λ j. left j turn s) f ∙ sym (after (Go None s) (e ∙ ap (λ p. Go (ending_option p) s) is)) ∙ ap (λ j. left j turn b) (sym start)
 
-  pub turns_end : n ≤ k → left b.turns turn b ≡ Halt OutOfTurns a
+  pub turns_end : n ≤ k → left b.turns turn b ≡ Halt (Over OutOfTurns) a
   turns_end h =
       let e : n - k ≡ 0 = omega arith in
       ap (λ j. left j turn b) (sym start) ∙ sym here ∙ ap (λ j. left j turn a) e

@@ -1,7 +1,7 @@
 -- How large a tree is: what the interpreter's recursion goes down in.
 use Rattle.std.proofs.Common.{◌≡◌, ℕ, zero, suc, ◌+◌, ◌<◌, ◌≤◌, List, [], ◌∷◌, length, get_or, ap, arith}
-use Rattle.l2_syntax.specs.declared.checked.Checked.{Checked}
-use Rattle.l2_syntax.specs.Checked.{CheckedTree, Block, Declare, Initialise, Evaluate, If, IfElse, While, Return, CheckedTrees, none, more, checked_tree, checked_trees}
+use Rattle.l2_program.specs.declared.checked.Checked.{Checked}
+use Rattle.l2_program.specs.Checked.{CheckedTree, Block, Declare, Initialise, Evaluate, If, IfElse, While, Return, CheckedTrees, none, more, checked_tree, checked_trees}
 
 abbrev mutual
   pub weight : CheckedTree → ℕ

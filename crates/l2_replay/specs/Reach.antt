@@ -1,11 +1,12 @@
 -- What the interpreter's values stand for.
 use Rattle.std.specs.Prelude.{◌≡◌, ℕ, Option, Some, None, map}
-use Rattle.l2_syntax.specs.declared.checked.Lvalue.{Lvalue}
-use Rattle.l2_syntax.specs.declared.checked.Lvalue.TheVariants as lvalue
-use Rattle.l2_syntax.specs.declared.program.Program.{Program}
-use Rattle.l2_syntax.specs.Programs.{program_tree}
-use Rattle.l2_meaning.specs.Store.{Address}
-use Rattle.l2_meaning.specs.Loops.{Real}
+use Rattle.l2_program.specs.declared.checked.Lvalue.{Lvalue}
+use Rattle.l2_program.specs.declared.checked.Lvalue.TheVariants as lvalue
+use Rattle.l2_program.specs.declared.program.Program.{Program}
+use Rattle.l2_program.specs.Programs.{program_tree}
+use Rattle.l2_runs.specs.Store.{Address}
+use Rattle.l2_runs.specs.Runs.{Over}
+use Rattle.l2_runs.specs.Loops.{Real, no_tests}
 use Rattle.l2_meaning.specs.Meaning as meaning
 use Rattle.l2_meaning.specs.Execution.{setting_of, Execution}
 use Rattle.l2_replay.specs.declared.answer.Replay.{Replay}
@@ -31,7 +32,7 @@ lvalue_address (lvalue.Object n) = record { object = n; offset = 0 }
 
 -- real executions of a program
 abbrev pub setting : Program → meaning.Setting
-setting p = setting_of (program_tree p) Real
+setting p = setting_of (program_tree p) Real no_tests
 
 abbrev pub execution_of : Replay → Execution
-execution_of r = record { outcome = r.outcome; choices_used = r.choices_used; turns_used = r.turns_used }
+execution_of r = record { end = Over r.outcome; choices_used = r.choices_used; turns_used = r.turns_used }

@@ -1,4 +1,4 @@
-use l2_meaning::Outcome;
+use l2_runs::Outcome;
 
 /// How an execution is over, and how many choices and turns it used.
 #[derive(Clone, Copy, Debug, PartialEq, Eq)]

@@ -1,15 +1,15 @@
 // Trees.
 ghost use Rattle.std.specs.Prelude.{◌≡◌, true, IfOk, IfErr};
-ghost use Rattle.l2_syntax.specs.Checked.{typed_tree};
-ghost use Rattle.l2_meaning.specs.Runs.{Go, Halt};
+ghost use Rattle.l2_program.specs.Checked.{typed_tree};
+ghost use Rattle.l2_runs.specs.Runs.{Go, Over, Halt};
 ghost use Rattle.l2_meaning.specs.Meaning.{value, put, fill, number_of, holds};
 ghost use Rattle.l2_replay.specs.Reach.{value_of, lvalue_address, setting};
 
 use crate::machine::Machine;
 use crate::operators::{binary, unary};
 use l2_bits::wrap;
-use l2_meaning::Outcome;
-use l2_syntax::{CellType, CellValue, Lvalue, Program, Typed};
+use l2_program::{Lvalue, Program, Typed};
+use l2_runs::{Outcome, CellType, CellValue};
 
 /// What an expression gives.
 #[derive(Clone, Copy)]
@@ -67,7 +67,7 @@ pub fn put_at(m: &mut Machine, n: u32, v: Value)
 #[tactic(auto, using(crate::proofs::Steps::steps))]
 pub fn eval(m: &mut Machine, p: &Program, e: &Typed) -> Result<Value, Outcome>
     ensures ok { IfOk result (λ v. value (setting p.now) true (typed_tree e.now) m.old ≡ Go (value_of v) m.new) }
-    ensures err { IfErr result (λ o. value (setting p.now) true (typed_tree e.now) m.old ≡ Halt o m.new) }
+    ensures err { IfErr result (λ o. value (setting p.now) true (typed_tree e.now) m.old ≡ Halt (Over o) m.new) }
 {
     match e {
         Typed::Constant(v) => Ok(Value::Scalar(*v)),
@@ -115,7 +115,7 @@ pub fn eval(m: &mut Machine, p: &Program, e: &Typed) -> Result<Value, Outcome>
 /// Gives the cells of an object, from `offset` on, what they hold without an initialiser.
 pub fn fill(m: &mut Machine, n: u32, types: &[CellType]) -> Result<(), Outcome>
     ensures ok { IfOk result (λ u. fill n 0 types.now m.old ≡ Go tt m.new) }
-    ensures err { IfErr result (λ o. fill n 0 types.now m.old ≡ Halt o m.new) }
+    ensures err { IfErr result (λ o. fill n 0 types.now m.old ≡ Halt (Over o) m.new) }
 {
     for i in 0..types.len() {
         let value = match types[i] {

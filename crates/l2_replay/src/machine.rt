@@ -1,11 +1,10 @@
 // The state of an execution.
 ghost use Rattle.std.specs.Prelude.{◌≡◌, ◌-◌, pos, length, slice_index_or, slice_set, IfOk, IfErr};
-ghost use Rattle.l2_syntax.specs.declared.program.CellValue.TheVariants.{Number};
-ghost use Rattle.l2_meaning.specs.Runs.{choose, read, write, enliven, bury, Go, Halt};
-ghost use Rattle.l2_meaning.specs.Loops.{arrive};
+ghost use Rattle.l2_runs.specs.declared.cells.CellValue.TheVariants.{Number};
+ghost use Rattle.l2_runs.specs.Runs.{choose, read, write, enliven, bury, Go, Over, Halt};
+ghost use Rattle.l2_runs.specs.Loops.{spend};
 
-use l2_meaning::Outcome;
-use l2_syntax::CellValue;
+use l2_runs::{Outcome, CellValue};
 use std::marker::Model;
 
 /// An object's cells, and whether it is live.
@@ -16,7 +15,7 @@ pub struct ObjectState {
 }
 
 impl Model for ObjectState {
-    ghost use Rattle.l2_meaning.specs.Store.{Object};
+    ghost use Rattle.l2_runs.specs.Store.{Object};
 
     ghost Value = { Object };
 
@@ -66,11 +65,11 @@ pub struct Machine<'a> {
 
 impl<'a> Model for Machine<'a> {
     ghost use Rattle.std.specs.Prelude.{drop, length, ◌≤◌};
-    ghost use Rattle.l2_meaning.specs.Runs.{State};
+    ghost use Rattle.l2_runs.specs.Runs.{State};
 
     ghost Value = { State };
 
-    ghost view = { λ m. record { store = m.store.items; choices = drop m.used m.choices.now; turns = m.turns } };
+    ghost view = { λ m. record { store = m.store.items; choices = drop m.used m.choices.now; turns = m.turns; arrivals = 0 } };
 
     ghost invariant = { λ m. m.used ≤ length m.choices.now };
 }
@@ -84,7 +83,7 @@ fn index_of(object: u32) -> usize
 
 impl<'a> Machine<'a> {
     pub fn new(store: Vec<ObjectState>, choices: &'a [i128], turns: u64) -> Machine<'a>
-        ensures { result ≡ record { store = store.items; choices = choices.now; turns = turns } }
+        ensures { result ≡ record { store = store.items; choices = choices.now; turns = turns; arrivals = 0 } }
     {
         Machine {
             store,
@@ -97,7 +96,7 @@ impl<'a> Machine<'a> {
     /// The next choice.
     pub fn choose(&mut self) -> Result<i128, Outcome>
         ensures ok { IfOk result (λ c. choose self.old ≡ Go c self.new) }
-        ensures err { IfErr result (λ o. choose self.old ≡ Halt o self.new) }
+        ensures err { IfErr result (λ o. choose self.old ≡ Halt (Over o) self.new) }
     {
         if self.used < self.choices.len() {
             let c = self.choices[self.used];
@@ -110,8 +109,8 @@ impl<'a> Machine<'a> {
 
     /// An arrival at a loop's head.
     pub fn arrive(&mut self) -> Result<(), Outcome>
-        ensures ok { IfOk result (λ u. arrive self.old ≡ Go u self.new) }
-        ensures err { IfErr result (λ o. arrive self.old ≡ Halt o self.new) }
+        ensures ok { IfOk result (λ u. spend self.old ≡ Go u self.new) }
+        ensures err { IfErr result (λ o. spend self.old ≡ Halt (Over o) self.new) }
     {
         if self.turns == 0 {
             Err(Outcome::OutOfTurns)

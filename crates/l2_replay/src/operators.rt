@@ -1,10 +1,10 @@
 // Operators on whole numbers, as those of a type on what they wrap to.
 ghost use Rattle.std.specs.Prelude.{◌≡◌, ◌+ℤ◌, ◌-ℤ◌, ◌*ℤ◌};
 ghost use Rattle.l2_bits.specs.Values.{wrap};
-ghost use Rattle.l2_meaning.specs.Operators.{unary, binary};
+ghost use Rattle.l2_runs.specs.Operators.{unary, binary};
 
 use l2_bits::{Ty, add, mul, sub, wrap};
-use l2_syntax::{BinaryOperator, UnaryOperator};
+use l2_runs::{BinaryOperator, UnaryOperator};
 
 pub fn unary(op: UnaryOperator, ty: Ty, a: i128) -> i128
     ensures { result ≡ unary op ty a }

@@ -1,11 +1,12 @@
 // The store at the start.
 ghost use Rattle.std.specs.Prelude.{◌≡◌, ◌==◌, ℕ, map, IfOk};
-ghost use Rattle.l2_syntax.specs.declared.program.CellType.{CellType};
-ghost use Rattle.l2_syntax.specs.Programs.{program_tree};
+ghost use Rattle.l2_runs.specs.declared.cells.CellType.{CellType};
+ghost use Rattle.l2_program.specs.Programs.{program_tree};
 ghost use Rattle.l2_meaning.specs.Execution.{first_cell, static_cells, first_object, first_objects, first_store};
 
 use crate::machine::ObjectState;
-use l2_syntax::{CellType, CellValue, ObjectInfo, Program, StaticValue};
+use l2_program::{ObjectInfo, Program, StaticValue};
+use l2_runs::{CellType, CellValue};
 use std::alloc::{AllocError, Global};
 
 fn first_cell(ty: CellType) -> CellValue

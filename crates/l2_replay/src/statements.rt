@@ -1,15 +1,14 @@
 // Statements.
 ghost use Rattle.std.specs.Prelude.{◌≡◌, true, IfOk, IfErr};
-ghost use Rattle.l2_syntax.specs.Checked.{typed_tree, checked_tree, checked_trees, Block, Initialise};
-ghost use Rattle.l2_meaning.specs.Runs.{Go, Halt, bury_all};
-ghost use Rattle.l2_meaning.specs.Loops.{Real};
+ghost use Rattle.l2_program.specs.Checked.{typed_tree, checked_tree, checked_trees, Block, Initialise};
+ghost use Rattle.l2_runs.specs.Runs.{Go, Over, Halt, bury_all};
 ghost use Rattle.l2_meaning.specs.Meaning.{value, act, act_all, declare, declared, while_turn, tree_loop};
 ghost use Rattle.l2_replay.specs.Reach.{ending_of, ending_option, setting};
 
 use crate::expressions::{Ending, eval, fill, holds, put_at};
 use crate::machine::Machine;
-use l2_meaning::Outcome;
-use l2_syntax::{CellType, Checked, Program, Typed};
+use l2_program::{Checked, Program, Typed};
+use l2_runs::{Outcome, CellType};
 
 /// The cells of an object.
 fn cells_of(p: &Program, n: u32) -> &[CellType]
@@ -24,7 +23,7 @@ fn cells_of(p: &Program, n: u32) -> &[CellType]
 /// A declaration without an initialiser.
 pub fn declare(m: &mut Machine, p: &Program, n: u32) -> Result<(), Outcome>
     ensures ok { IfOk result (λ u. declare (setting p.now) n m.old ≡ Go tt m.new) }
-    ensures err { IfErr result (λ o. declare (setting p.now) n m.old ≡ Halt o m.new) }
+    ensures err { IfErr result (λ o. declare (setting p.now) n m.old ≡ Halt (Over o) m.new) }
 {
     m.enliven(n);
     fill(m, n, cells_of(p, n))
@@ -33,7 +32,7 @@ pub fn declare(m: &mut Machine, p: &Program, n: u32) -> Result<(), Outcome>
 /// A declaration with its initialiser.
 fn initialise(m: &mut Machine, p: &Program, n: u32, e: &Typed) -> Result<Ending, Outcome>
     ensures ok { IfOk result (λ f. act (setting p.now) true (Initialise n (typed_tree e.now)) m.old ≡ Go (ending_of f) m.new) }
-    ensures err { IfErr result (λ o. act (setting p.now) true (Initialise n (typed_tree e.now)) m.old ≡ Halt o m.new) }
+    ensures err { IfErr result (λ o. act (setting p.now) true (Initialise n (typed_tree e.now)) m.old ≡ Halt (Over o) m.new) }
 {
     m.enliven(n);
     match eval(m, p, e) {
@@ -63,7 +62,7 @@ fn bury_declared(m: &mut Machine, all: &[Checked])
 #[tactic(auto, using(crate::proofs::Steps::steps))]
 pub fn act(m: &mut Machine, p: &Program, s: &Checked) -> Result<Ending, Outcome>
     ensures ok { IfOk result (λ f. act (setting p.now) true (checked_tree s.now) m.old ≡ Go (ending_of f) m.new) }
-    ensures err { IfErr result (λ o. act (setting p.now) true (checked_tree s.now) m.old ≡ Halt o m.new) }
+    ensures err { IfErr result (λ o. act (setting p.now) true (checked_tree s.now) m.old ≡ Halt (Over o) m.new) }
 {
     match s {
         Checked::Block(all) => block(m, p, all),
@@ -92,7 +91,7 @@ pub fn act(m: &mut Machine, p: &Program, s: &Checked) -> Result<Ending, Outcome>
         },
         Checked::While(_, e, s) => repeat(m, p, e, s),
         Checked::Return(e) => match eval(m, p, e) {
-            Ok(v) => Ok(Ending::Returned(v)),
+            Ok(_) => Err(Outcome::Ended),
             Err(o) => Err(o),
         },
     }
@@ -103,7 +102,7 @@ pub fn act(m: &mut Machine, p: &Program, s: &Checked) -> Result<Ending, Outcome>
 #[tactic(auto, using(crate::proofs::Steps::steps))]
 fn block(m: &mut Machine, p: &Program, all: &[Checked]) -> Result<Ending, Outcome>
     ensures ok { IfOk result (λ f. act (setting p.now) true (Block (checked_trees all.now)) m.old ≡ Go (ending_of f) m.new) }
-    ensures err { IfErr result (λ o. act (setting p.now) true (Block (checked_trees all.now)) m.old ≡ Halt o m.new) }
+    ensures err { IfErr result (λ o. act (setting p.now) true (Block (checked_trees all.now)) m.old ≡ Halt (Over o) m.new) }
 {
     match act_each(m, p, all) {
         Ok(f) => {
@@ -119,7 +118,7 @@ fn block(m: &mut Machine, p: &Program, all: &[Checked]) -> Result<Ending, Outcom
 #[tactic(auto, using(crate::proofs::Steps::steps))]
 fn act_each(m: &mut Machine, p: &Program, all: &[Checked]) -> Result<Ending, Outcome>
     ensures ok { IfOk result (λ f. act_all (setting p.now) true (checked_trees all.now) m.old ≡ Go (ending_of f) m.new) }
-    ensures err { IfErr result (λ o. act_all (setting p.now) true (checked_trees all.now) m.old ≡ Halt o m.new) }
+    ensures err { IfErr result (λ o. act_all (setting p.now) true (checked_trees all.now) m.old ≡ Halt (Over o) m.new) }
 {
     for s in all {
         match act(m, p, s) {
@@ -135,8 +134,8 @@ fn act_each(m: &mut Machine, p: &Program, all: &[Checked]) -> Result<Ending, Out
 #[cycle(statements)]
 #[tactic(auto, using(crate::proofs::Steps::steps))]
 fn repeat(m: &mut Machine, p: &Program, e: &Typed, s: &Checked) -> Result<Ending, Outcome>
-    ensures ok { IfOk result (λ f. tree_loop Real 0 (λ c. while_turn (value (setting p.now) c (typed_tree e.now)) (act (setting p.now) c (checked_tree s.now))) true m.old ≡ Go (ending_of f) m.new) }
-    ensures err { IfErr result (λ o. tree_loop Real 0 (λ c. while_turn (value (setting p.now) c (typed_tree e.now)) (act (setting p.now) c (checked_tree s.now))) true m.old ≡ Halt o m.new) }
+    ensures ok { IfOk result (λ f. tree_loop (setting p.now) 0 (λ c. while_turn (value (setting p.now) c (typed_tree e.now)) (act (setting p.now) c (checked_tree s.now))) true m.old ≡ Go (ending_of f) m.new) }
+    ensures err { IfErr result (λ o. tree_loop (setting p.now) 0 (λ c. while_turn (value (setting p.now) c (typed_tree e.now)) (act (setting p.now) c (checked_tree s.now))) true m.old ≡ Halt (Over o) m.new) }
 {
     for turn in 0..m.turns() {
         if let Err(o) = m.arrive() {
@@ -156,7 +155,7 @@ fn repeat(m: &mut Machine, p: &Program, e: &Typed, s: &Checked) -> Result<Ending
 #[tactic(auto, using(crate::proofs::Steps::steps))]
 fn one_turn(m: &mut Machine, p: &Program, e: &Typed, s: &Checked) -> Result<Option<Ending>, Outcome>
     ensures ok { IfOk result (λ o. while_turn (value (setting p.now) true (typed_tree e.now)) (act (setting p.now) true (checked_tree s.now)) m.old ≡ Go (ending_option o) m.new) }
-    ensures err { IfErr result (λ o. while_turn (value (setting p.now) true (typed_tree e.now)) (act (setting p.now) true (checked_tree s.now)) m.old ≡ Halt o m.new) }
+    ensures err { IfErr result (λ o. while_turn (value (setting p.now) true (typed_tree e.now)) (act (setting p.now) true (checked_tree s.now)) m.old ≡ Halt (Over o) m.new) }
 {
     match eval(m, p, e) {
         Ok(v) => {

@@ -5,10 +5,10 @@ use Rattle.l2_syntax.specs.declared.place.Place.{Place}
 use Rattle.l2_syntax.specs.declared.token.Name.{Name as NameText}
 use Rattle.l2_syntax.specs.declared.token.Scalar.{Scalar}
 use Rattle.l2_syntax.specs.declared.token.Scalar.TheVariants as scalar
-use Rattle.l2_syntax.specs.declared.operators.UnaryOperator as to_unary
-use Rattle.l2_syntax.specs.declared.operators.UnaryOperator.TheVariants.{Negate, Not}
-use Rattle.l2_syntax.specs.declared.operators.BinaryOperator as to_binary
-use Rattle.l2_syntax.specs.declared.operators.BinaryOperator.TheVariants.{Multiply, Add, Subtract, Less, LessEqual, Greater, GreaterEqual, Equal, NotEqual}
+use Rattle.l2_runs.specs.declared.operators.UnaryOperator as to_unary
+use Rattle.l2_runs.specs.declared.operators.UnaryOperator.TheVariants.{Negate, Not}
+use Rattle.l2_runs.specs.declared.operators.BinaryOperator as to_binary
+use Rattle.l2_runs.specs.declared.operators.BinaryOperator.TheVariants.{Multiply, Add, Subtract, Less, LessEqual, Greater, GreaterEqual, Equal, NotEqual}
 use Rattle.l2_tree.specs.declared.operators.UnaryOperator.{UnaryOperator}
 use Rattle.l2_tree.specs.declared.operators.UnaryOperator.TheVariants as unary
 use Rattle.l2_tree.specs.declared.operators.BinaryOperator.{BinaryOperator}

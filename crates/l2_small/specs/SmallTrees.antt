@@ -3,8 +3,8 @@ use Rattle.std.specs.Prelude.{ℕ, ℤ, List, [], ◌∷◌}
 use Rattle.l2_syntax.specs.declared.place.Place.{Place}
 use Rattle.l2_syntax.specs.declared.token.Name.{Name as NameText}
 use Rattle.l2_small.specs.declared.tree.SmallUnit as unit
-use Rattle.l2_syntax.specs.declared.operators.UnaryOperator.{UnaryOperator}
-use Rattle.l2_syntax.specs.declared.operators.BinaryOperator.{BinaryOperator}
+use Rattle.l2_runs.specs.declared.operators.UnaryOperator.{UnaryOperator}
+use Rattle.l2_runs.specs.declared.operators.BinaryOperator.{BinaryOperator}
 use Rattle.l2_small.specs.declared.tree.SmallExpr as expr
 use Rattle.l2_small.specs.declared.tree.SmallExpr.{SmallExpr}
 use Rattle.l2_small.specs.declared.tree.SmallStmt as stmt

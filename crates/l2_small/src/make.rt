@@ -5,7 +5,8 @@ ghost use Rattle.l2_small.specs.declared.error.SmallError.TheVariants.{NoMemory}
 
 use crate::error::SmallError;
 use crate::tree::{SmallExpr, SmallStmt};
-use l2_syntax::{BinaryOperator, Place, UnaryOperator};
+use l2_runs::{BinaryOperator, UnaryOperator};
+use l2_syntax::Place;
 use std::alloc::Global;
 
 pub fn parenthesised(alloc: Global, e: SmallExpr) -> Result<SmallExpr, SmallError>

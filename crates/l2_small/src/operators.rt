@@ -2,7 +2,8 @@
 ghost use Rattle.std.specs.Prelude.{◌≡◌};
 ghost use Rattle.l2_small.specs.SmallForm.{small_unary, small_binary, is_int_constant};
 
-use l2_syntax::{BinaryOperator, Scalar, UnaryOperator};
+use l2_runs::{BinaryOperator, UnaryOperator};
+use l2_syntax::Scalar;
 use l2_tree::{BinaryOperator as AnyBinary, UnaryOperator as AnyUnary};
 
 pub fn small_unary(operator: AnyUnary) -> Option<UnaryOperator>

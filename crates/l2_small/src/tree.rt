@@ -1,5 +1,6 @@
 use l2_bits::List;
-use l2_syntax::{BinaryOperator, Name, Place, UnaryOperator};
+use l2_runs::{BinaryOperator, UnaryOperator};
+use l2_syntax::{Name, Place};
 
 /// An expression as it is spelt, parentheses and all. Words carry their number and their place.
 #[derive(Drop)]

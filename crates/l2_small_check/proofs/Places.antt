@@ -5,7 +5,7 @@ use Rattle.std.proofs.Math.ListN.{get_or-append}
 use Rattle.std.proofs.Math.Seq.{get_or-append_seam}
 use Rattle.std.proofs.lemmas.List.{get_or-set_same, get_or-set_other, length-append}
 use native.Mathlib.Decide.{ℕ_discrete, dec_lt}
-use Rattle.l2_syntax.specs.declared.program.ObjectInfo.{ObjectInfo}
+use Rattle.l2_program.specs.declared.program.ObjectInfo.{ObjectInfo}
 use Rattle.l2_small_check.specs.Elaboration.{Scope, is_declared}
 use Rattle.l2_small_check.specs.Tables.{place_of, entry_at, ArePlaced, AreDeclared}
 

@@ -2,9 +2,9 @@
 use Rattle.std.proofs.Common.{◌≡◌, ℕ, zero, suc, ◌<◌, length, drop, get_or, sym, arith, List, [], ◌∷◌, map, Option, Some, None, refl, ap, ◌∙◌}
 use Rattle.std.specs.Prelude.{option_map, ◌++◌}
 use Rattle.l2_small.specs.declared.tree.SmallStmt.{SmallStmt}
-use Rattle.l2_syntax.specs.declared.checked.Checked.{Checked}
+use Rattle.l2_program.specs.declared.checked.Checked.{Checked}
 use Rattle.l2_small.specs.SmallTrees.{SmallStmtTree, SmallStmtTrees, also, small_stmt_tree, small_stmts_onto}
-use Rattle.l2_syntax.specs.Checked.{CheckedTree, more, checked_tree, checked_trees}
+use Rattle.l2_program.specs.Checked.{CheckedTree, more, checked_tree, checked_trees}
 use Rattle.l2_small.specs.SmallForm.{and_then}
 use Rattle.l2_small_check.specs.Elaboration.{Scope, Found, Elaborated, made, item, items, chain}
 

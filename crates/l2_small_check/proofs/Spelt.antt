@@ -5,15 +5,15 @@ use Rattle.std.proofs.lemmas.List.{length-append}
 use Rattle.std.proofs.Math.Seq.{take-append_seam, take-length}
 use Rattle.l2_syntax.specs.declared.place.Place.{Place}
 use Rattle.l2_bits.specs.Types.{int_type}
-use Rattle.l2_syntax.specs.declared.program.Kind.TheVariants.{Assertion}
-use Rattle.l2_syntax.specs.declared.operators.UnaryOperator.{UnaryOperator}
-use Rattle.l2_syntax.specs.declared.operators.BinaryOperator.{BinaryOperator}
-use Rattle.l2_syntax.specs.declared.program.ObjectInfo.{ObjectInfo}
+use Rattle.l2_program.specs.declared.program.Kind.TheVariants.{Assertion}
+use Rattle.l2_runs.specs.declared.operators.UnaryOperator.{UnaryOperator}
+use Rattle.l2_runs.specs.declared.operators.BinaryOperator.{BinaryOperator}
+use Rattle.l2_program.specs.declared.program.ObjectInfo.{ObjectInfo}
 use Rattle.l2_small.specs.SmallTrees as small
 use Rattle.l2_small.specs.SmallTrees.{SmallExprTree, SmallStmtTree, SmallStmtTrees, SmallUnitTree}
-use Rattle.l2_syntax.specs.Checked as checked
-use Rattle.l2_syntax.specs.Checked.{TypedTree, CheckedTree, CheckedTrees}
-use Rattle.l2_syntax.specs.Programs.{ProgramTree}
+use Rattle.l2_program.specs.Checked as checked
+use Rattle.l2_program.specs.Checked.{TypedTree, CheckedTree, CheckedTrees}
+use Rattle.l2_program.specs.Programs.{ProgramTree}
 use Rattle.l2_small_check.specs.declared.entry.Entry.{Entry}
 use Rattle.l2_small.specs.SmallForm.{and_then}
 use Rattle.l2_small_check.specs.Elaboration.{Scope, Found, Elaborated, lookup, variable, stays, made, within, typed, declare, is_declared, most_cells, object_number, loop_number, check_number, with_loop, with_check, chain, block, item, items, nothing_found, program_with, program_of}

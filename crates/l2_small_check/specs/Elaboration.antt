@@ -3,19 +3,19 @@
 use Rattle.std.specs.Prelude.{ℕ, ◌+◌, ◌==◌, Bool, false, ◌||◌, if◌then◌else◌, nat_lt, List, [], ◌∷◌, ◌++◌, length, codes, Option, Some, None, option_map}
 use Rattle.l2_bits.specs.Types.{int_type}
 use Rattle.l2_syntax.specs.declared.place.Place.{Place}
-use Rattle.l2_syntax.specs.declared.program.CellType.TheVariants.{Integer}
-use Rattle.l2_syntax.specs.declared.program.CellValue.TheVariants as cell
-use Rattle.l2_syntax.specs.declared.program.Kind.TheVariants.{Assertion}
-use Rattle.l2_syntax.specs.declared.program.ObjectInfo.{ObjectInfo}
-use Rattle.l2_syntax.specs.declared.program.LoopInfo.{LoopInfo}
-use Rattle.l2_syntax.specs.declared.program.CheckInfo.{CheckInfo}
+use Rattle.l2_runs.specs.declared.cells.CellType.TheVariants.{Integer}
+use Rattle.l2_runs.specs.declared.cells.CellValue.TheVariants as cell
+use Rattle.l2_program.specs.declared.program.Kind.TheVariants.{Assertion}
+use Rattle.l2_program.specs.declared.program.ObjectInfo.{ObjectInfo}
+use Rattle.l2_program.specs.declared.program.LoopInfo.{LoopInfo}
+use Rattle.l2_program.specs.declared.program.CheckInfo.{CheckInfo}
 use Rattle.l2_syntax.specs.declared.token.Name.{Name}
 use Rattle.l2_small.specs.SmallForm.{and_then}
 use Rattle.l2_small.specs.SmallTrees as small
 use Rattle.l2_small.specs.SmallTrees.{SmallExprTree, SmallStmtTree, SmallStmtTrees, SmallUnitTree}
-use Rattle.l2_syntax.specs.Checked as checked
-use Rattle.l2_syntax.specs.Checked.{TypedTree, CheckedTree, CheckedTrees}
-use Rattle.l2_syntax.specs.Programs.{ProgramTree, FunctionTree}
+use Rattle.l2_program.specs.Checked as checked
+use Rattle.l2_program.specs.Checked.{TypedTree, CheckedTree, CheckedTrees}
+use Rattle.l2_program.specs.Programs.{ProgramTree, FunctionTree}
 use Rattle.l2_small_check.specs.declared.entry.Entry.{Entry}
 
 -- the names in scope, in the order of their declarations

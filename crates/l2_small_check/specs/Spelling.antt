@@ -1,15 +1,15 @@
 -- A program as a text again: each number is looked up in the program's lists, and says which name, loop or check it is.
 use Rattle.std.specs.Prelude.{◌≡◌, ℕ, ◌-◌, pos, false, List, [], ◌∷◌, map, slice_index_or}
 use Rattle.l2_syntax.specs.declared.place.Place.{Place}
-use Rattle.l2_syntax.specs.declared.program.CellValue.TheVariants as cell
-use Rattle.l2_syntax.specs.declared.program.Kind.TheVariants.{Assertion}
-use Rattle.l2_syntax.specs.declared.program.ObjectInfo.{ObjectInfo}
-use Rattle.l2_syntax.specs.declared.program.LoopInfo.{LoopInfo}
-use Rattle.l2_syntax.specs.declared.program.CheckInfo.{CheckInfo}
+use Rattle.l2_runs.specs.declared.cells.CellValue.TheVariants as cell
+use Rattle.l2_program.specs.declared.program.Kind.TheVariants.{Assertion}
+use Rattle.l2_program.specs.declared.program.ObjectInfo.{ObjectInfo}
+use Rattle.l2_program.specs.declared.program.LoopInfo.{LoopInfo}
+use Rattle.l2_program.specs.declared.program.CheckInfo.{CheckInfo}
 use Rattle.l2_small.specs.SmallTrees.{SmallExprTree, Name, Number, Choice, Parenthesised, Unary, Binary, SmallStmtTree, Block, Declare, Initialise, Assign, If, IfElse, While, Assert, Return, SmallStmtTrees, none, also}
-use Rattle.l2_syntax.specs.Checked as checked
-use Rattle.l2_syntax.specs.Checked.{TypedTree, CheckedTree, CheckedTrees}
-use Rattle.l2_syntax.specs.Programs.{ProgramTree, FunctionTree}
+use Rattle.l2_program.specs.Checked as checked
+use Rattle.l2_program.specs.Checked.{TypedTree, CheckedTree, CheckedTrees}
+use Rattle.l2_program.specs.Programs.{ProgramTree, FunctionTree}
 use Rattle.l2_small_check.specs.Elaboration.{Found, variable, is_declared}
 
 -- ---- texts without their parentheses and without the places of the words in their expressions

@@ -1,6 +1,6 @@
 -- What the table of names holds, and how its places find the entries.
 use Rattle.std.specs.Prelude.{◌≡◌, ℕ, ◌+◌, ◌<◌, ◌↔◌, false, List, length, take, slice_index_or}
-use Rattle.l2_syntax.specs.declared.program.ObjectInfo.{ObjectInfo}
+use Rattle.l2_program.specs.declared.program.ObjectInfo.{ObjectInfo}
 use Rattle.l2_small_check.specs.Elaboration.{Scope, Found, Elaborated, is_declared}
 use Rattle.l2_small_check.specs.declared.entry.Entry.{Entry}
 

@@ -1,7 +1,7 @@
 // Expressions.
 ghost use Rattle.std.specs.Prelude.{◌≡◌, Some, None, IfOk, IsErrOf};
 ghost use Rattle.l2_small.specs.SmallTrees.{small_expr_tree};
-ghost use Rattle.l2_syntax.specs.Checked.{typed_tree};
+ghost use Rattle.l2_program.specs.Checked.{typed_tree};
 ghost use Rattle.l2_small_check.specs.Elaboration.{typed};
 
 use crate::error::CheckError;
@@ -9,7 +9,8 @@ use crate::make::{binary, unary};
 use crate::table::Table;
 use l2_bits::Ty;
 use l2_small::SmallExpr;
-use l2_syntax::{CellValue, Lvalue, Typed};
+use l2_program::{Lvalue, Typed};
+use l2_runs::CellValue;
 use std::alloc::Global;
 
 /// An expression with its names resolved.

@@ -1,5 +1,5 @@
 use l2_bits::List;
-use l2_syntax::{CheckInfo, LoopInfo, ObjectInfo};
+use l2_program::{CheckInfo, LoopInfo, ObjectInfo};
 
 /// The objects, loops and checks of a text.
 #[derive(Drop)]

@@ -1,7 +1,7 @@
 //! What holds of the definitions: functions without effect whose contracts are the laws.
 ghost use Rattle.std.specs.Prelude.{◌≡◌, ◌≤◌, [], ◌∷◌, Some, length};
 ghost use Rattle.l2_small.specs.SmallTrees.{Block, SmallUnitTree};
-ghost use Rattle.l2_syntax.specs.Programs.{ProgramTree};
+ghost use Rattle.l2_program.specs.Programs.{ProgramTree};
 ghost use Rattle.l2_small_check.specs.Elaboration.{program_of, most_cells};
 ghost use Rattle.l2_small_check.specs.Spelling.{plain_items, spelt_bodies, AreApart};
 

@@ -1,12 +1,13 @@
 // Trees, made of their parts.
 ghost use Rattle.std.specs.Prelude.{◌≡◌, IfOk, IfErr};
 ghost use Rattle.l2_bits.specs.Types.{int_type};
-ghost use Rattle.l2_syntax.specs.Checked.{Unary, Binary, Assign, Assert, Evaluate, If, IfElse, While, Object, typed_tree, checked_tree};
+ghost use Rattle.l2_program.specs.Checked.{Unary, Binary, Assign, Assert, Evaluate, If, IfElse, While, Object, typed_tree, checked_tree};
 ghost use Rattle.l2_small_check.specs.declared.error.CheckError.TheVariants.{NoMemory};
 
 use crate::error::CheckError;
 use l2_bits::Ty;
-use l2_syntax::{BinaryOperator, Checked, Lvalue, Typed, UnaryOperator};
+use l2_program::{Checked, Lvalue, Typed};
+use l2_runs::{BinaryOperator, UnaryOperator};
 use std::alloc::Global;
 
 /// An operator of `int` on its operand.

@@ -1,7 +1,7 @@
 // Statements.
 ghost use Rattle.std.specs.Prelude.{◌≡◌, Some, None, map, option_map, IfOk, IsErrOf};
 ghost use Rattle.l2_small.specs.SmallTrees.{none, Initialise, Assign, Assert, small_expr_tree, small_stmt_tree, small_stmts_onto};
-ghost use Rattle.l2_syntax.specs.Checked.{checked_tree};
+ghost use Rattle.l2_program.specs.Checked.{checked_tree};
 ghost use Rattle.l2_small_check.specs.Elaboration.{item, items, within, made, block};
 ghost use Rattle.l2_small_check.specs.Tables.{elaborated, Keeps};
 
@@ -10,7 +10,8 @@ use crate::expressions::typed;
 use crate::make::{assertion, assignment, if_else, if_then, while_loop};
 use crate::table::Table;
 use l2_small::{SmallExpr, SmallStmt};
-use l2_syntax::{Checked, Place};
+use l2_program::Checked;
+use l2_syntax::Place;
 use std::alloc::Global;
 
 /// `int NAME = e;`.

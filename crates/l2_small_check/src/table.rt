@@ -9,7 +9,9 @@ use crate::entry::Entry;
 use crate::error::CheckError;
 use crate::found::Found;
 use l2_bits::{List, Ty};
-use l2_syntax::{CellType, CheckInfo, Kind, LoopInfo, ObjectInfo, Place};
+use l2_program::{CheckInfo, Kind, LoopInfo, ObjectInfo};
+use l2_runs::CellType;
+use l2_syntax::Place;
 use std::alloc::Global;
 use std::marker::Model;
 

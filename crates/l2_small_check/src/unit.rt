@@ -1,10 +1,10 @@
 // Units.
 ghost use Rattle.std.specs.Prelude.{◌≡◌, ◌∷◌, [], Some, None, map, IfOk, IfErr, IsErrOf};
 ghost use Rattle.l2_bits.specs.Types.{int_type};
-ghost use Rattle.l2_syntax.specs.declared.program.CellType.TheVariants.{Integer};
+ghost use Rattle.l2_runs.specs.declared.cells.CellType.TheVariants.{Integer};
 ghost use Rattle.l2_small.specs.SmallTrees.{none, small_unit_tree};
-ghost use Rattle.l2_syntax.specs.Checked.{checked_tree};
-ghost use Rattle.l2_syntax.specs.Programs.{function_tree, program_tree};
+ghost use Rattle.l2_program.specs.Checked.{checked_tree};
+ghost use Rattle.l2_program.specs.Programs.{function_tree, program_tree};
 ghost use Rattle.l2_small_check.specs.Elaboration.{program_of, program_with, main_name, block, stays};
 ghost use Rattle.l2_small_check.specs.Founds.{found_of};
 ghost use Rattle.l2_small_check.specs.declared.error.CheckError.TheVariants.{NoMemory};
@@ -15,7 +15,9 @@ use crate::statements::items;
 use crate::table::{Table, number};
 use l2_bits::{List, Ty};
 use l2_small::SmallUnit;
-use l2_syntax::{CellType, Checked, FunctionInfo, Name, Place, Program};
+use l2_program::{Checked, FunctionInfo, Program};
+use l2_runs::CellType;
+use l2_syntax::{Name, Place};
 use std::alloc::Global;
 
 /// The program of a unit of the small form: names stand for the objects that are in scope (C11 6.2.1), and objects, loops

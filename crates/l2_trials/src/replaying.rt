@@ -1,10 +1,8 @@
 use l2_bits::{List, Ty};
-use l2_meaning::Outcome;
 use l2_replay::replay;
-use l2_syntax::{
-    BinaryOperator, CellType, CellValue, CheckInfo, Checked, FunctionInfo, Kind, Lvalue, Name,
-    ObjectInfo, Place, Program, Typed,
-};
+use l2_program::{CheckInfo, Checked, FunctionInfo, Kind, Lvalue, ObjectInfo, Program, Typed};
+use l2_runs::{Outcome, BinaryOperator, CellType, CellValue};
+use l2_syntax::{Name, Place};
 use std::alloc::Global;
 use std::test::Fail;
 

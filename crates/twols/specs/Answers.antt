@@ -3,14 +3,15 @@ use Rattle.std.specs.Prelude.{◌≡◌, ◌≢◌, ℕ, ◌+◌, ◌<◌, ◌�
 use Rattle.l2_outside.specs.Outside.{Files, HandsOver, Lacks, grown, GrewByPrefix}
 use Rattle.l2_witness.specs.ValuesFile.{InRange, spelling}
 use Rattle.l2_syntax.specs.declared.refusal.Refusal.{Refusal}
-use Rattle.l2_syntax.specs.Programs.{ProgramTree}
+use Rattle.l2_program.specs.Programs.{ProgramTree}
 use Rattle.l2_tree.specs.Trees.{UnitTree}
 use Rattle.l2_parse_unit.specs.Reading.{SpellsText, IsTextRefused}
 use Rattle.l2_small.specs.SmallForm.{small_of, and_then}
 use Rattle.l2_small_check.specs.Elaboration.{program_of}
-use Rattle.l2_meaning.specs.declared.outcome.Outcome.{Outcome}
-use Rattle.l2_meaning.specs.declared.outcome.Outcome.TheVariants.{Ended, Stopped, Broken, OutOfChoices, OutOfTurns}
-use Rattle.l2_meaning.specs.Loops.{Real}
+use Rattle.l2_runs.specs.declared.outcome.Outcome.{Outcome}
+use Rattle.l2_runs.specs.declared.outcome.Outcome.TheVariants.{Ended, Stopped, Broken, OutOfChoices, OutOfTurns}
+use Rattle.l2_runs.specs.Runs.{End, Over, Fallen}
+use Rattle.l2_runs.specs.Loops.{Real, no_tests}
 use Rattle.l2_meaning.specs.Execution.{exec, IsBroken}
 use Rattle.twols.specs.declared.status.Status.{Status}
 use Rattle.twols.specs.declared.status.Status.TheVariants.{Fine, Usage, ReadFault, WriteFault, NoMemory, Unknown, Refused, FileRefused, TooLong, Short, Unsafe}
@@ -73,8 +74,13 @@ IsShort OutOfTurns = Unit {0}
 abbrev pub Fits : Status → Outcome → Type 0
 Fits Fine o = IsFine o
 Fits Short o = IsShort o
-Fits Unsafe o = IsBroken o
+Fits Unsafe o = IsBroken (Over o)
 Fits status o = ⊥
+
+-- the status that a replay that is over so ends with; no row of a loop fails where no row is tested
+abbrev pub FitsEnd : Status → End → Type 0
+FitsEnd status (Over o) = Fits status o
+FitsEnd status (Fallen l row) = ⊥
 
 -- the text's program, executed on the choices and turns of the values file, comes to such an outcome, and this is its line
 pub record Replays (text values : List ℕ) (status : Status) (line : List ℕ) : Type 0 where
@@ -84,8 +90,8 @@ pub record Replays (text values : List ℕ) (status : Status) (line : List ℕ) 
   pub is_program : IsProgram text program
   pub in_range : InRange turns choices
   pub values_spelt : values ≡ spelling turns choices
-  pub fits : Fits status (exec program Real choices turns).outcome
-  pub line_is : line ≡ replay_line program.checks (exec program Real choices turns)
+  pub fits : FitsEnd status (exec program Real no_tests choices turns).end
+  pub line_is : line ≡ replay_line program.checks (exec program Real no_tests choices turns)
 
 -- the text is no program of the small form
 abbrev pub IsNoProgram : List ℕ → Type 0

@@ -1,22 +1,23 @@
 ghost use Rattle.std.specs.Prelude.{◌≡◌, ◌≤◌, length, IfOk, IfErr, IsErrOf, string_bytes};
 ghost use Rattle.l2_witness.specs.ValuesFile.{InRange, spelling};
-ghost use Rattle.l2_syntax.specs.Programs.{ProgramTree, program_tree};
-ghost use Rattle.l2_meaning.specs.Loops.{Real};
+ghost use Rattle.l2_program.specs.Programs.{ProgramTree, program_tree};
+ghost use Rattle.l2_runs.specs.Loops.{Real, no_tests};
 ghost use Rattle.l2_meaning.specs.Execution.{exec};
 ghost use Rattle.twols.specs.Printed.{replay_line};
 ghost use Rattle.l2_tree.specs.Units.{unit_tree};
 ghost use Rattle.l2_parse_unit.specs.Reading.{OnRefusal};
-ghost use Rattle.twols.specs.Answers.{Judged, IsProgram, IsNoProgram, IsRefusalOf, small_program, Fits};
+ghost use Rattle.twols.specs.Answers.{Judged, IsProgram, IsNoProgram, IsRefusalOf, small_program, Fits, FitsEnd};
 
 use crate::line::{refusal_line, replay_line};
 use crate::status::Status;
 use l2_lex::tokens;
-use l2_meaning::Outcome;
+use l2_runs::Outcome;
 use l2_parse_unit::{parse, refused_law, unique_unit_law};
 use l2_replay::replay;
 use l2_small::{SmallError, small};
 use l2_small_check::{CheckError, check};
-use l2_syntax::{Place, Program, Refusal, Rule, TextFault};
+use l2_program::Program;
+use l2_syntax::{Place, Refusal, Rule, TextFault};
 use l2_tree::Unit;
 use l2_witness::{Values, ValuesError, read_values};
 use std::alloc::{AllocError, Global};
@@ -85,8 +86,8 @@ fn replayed(
     program: &Program,
     values: &Values,
 ) -> Result<(Status, String), AllocError>
-    ensures fits { IfOk result (λ r. Fits r.0 (exec (program_tree program.now) Real values.now.choices values.now.turns).outcome) }
-    ensures line { IfOk result (λ r. string_bytes r.1 ≡ replay_line program.now.checks (exec (program_tree program.now) Real values.now.choices values.now.turns)) }
+    ensures fits { IfOk result (λ r. FitsEnd r.0 (exec (program_tree program.now) Real no_tests values.now.choices values.now.turns).end) }
+    ensures line { IfOk result (λ r. string_bytes r.1 ≡ replay_line program.now.checks (exec (program_tree program.now) Real no_tests values.now.choices values.now.turns)) }
 {
     match replay(alloc, program, values.choices.as_slice(), values.turns) {
         Ok(r) => {

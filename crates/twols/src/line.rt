@@ -1,13 +1,14 @@
 ghost use Rattle.std.specs.Prelude.{◌≡◌, ◌++◌, codes, decimal, IfOk, OnOk, string_bytes};
-ghost use Rattle.l2_syntax.specs.Kinds.{kind_text};
+ghost use Rattle.l2_program.specs.Kinds.{kind_text};
 ghost use Rattle.l2_syntax.specs.Places.{place_text};
 ghost use Rattle.l2_replay.specs.Reach.{execution_of};
 ghost use Rattle.l2_syntax.specs.Refusals.{rule_text};
 ghost use Rattle.twols.specs.Printed.{outcome_text, broken_text, replay_line, refusal_line};
 
-use l2_meaning::Outcome;
+use l2_runs::Outcome;
 use l2_replay::Replay;
-use l2_syntax::{CheckInfo, Place, Refusal};
+use l2_program::CheckInfo;
+use l2_syntax::{Place, Refusal};
 use std::alloc::{AllocError, Global};
 
 /// A number behind a text.

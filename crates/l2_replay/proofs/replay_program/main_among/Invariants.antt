@@ -1,5 +1,5 @@
 use Rattle.std.proofs.Common.{◌≡◌, map, drop}
-use Rattle.l2_syntax.specs.Programs.{function_tree}
+use Rattle.l2_program.specs.Programs.{function_tree}
 use Rattle.l2_meaning.specs.Execution.{main_among}
 use Rattle.l2_replay.proofs.replay_program.main_among.Given as goal
 

@@ -1,5 +1,5 @@
 use Rattle.std.proofs.Common.{◌≡◌, true, ◌+◌, ◌-◌, ◌*◌, drop}
-use Rattle.l2_syntax.specs.Checked.{typed_tree, checked_tree, checked_trees}
+use Rattle.l2_program.specs.Checked.{typed_tree, checked_tree, checked_trees}
 use Rattle.l2_meaning.specs.Meaning.{value, act, act_all, while_turn}
 use Rattle.l2_replay.specs.Reach.{setting}
 use Rattle.l2_replay.proofs.Loops.{left}

@@ -1,6 +1,6 @@
 use Rattle.std.proofs.Common.{◌≡◌, drop}
-use Rattle.l2_syntax.specs.Checked.{checked_trees}
-use Rattle.l2_meaning.specs.Runs.{bury_all}
+use Rattle.l2_program.specs.Checked.{checked_trees}
+use Rattle.l2_runs.specs.Runs.{bury_all}
 use Rattle.l2_meaning.specs.Meaning.{declared}
 use Rattle.l2_replay.proofs.statements.bury_declared.Given as goal
 

@@ -1,6 +1,6 @@
 use Rattle.std.proofs.Common.{◌≡◌, ◌+◌, ◌*◌, Some, map, drop}
 use Rattle.l2_small.specs.SmallTrees.{none, small_stmt_tree, small_stmts_onto}
-use Rattle.l2_syntax.specs.Checked.{checked_tree}
+use Rattle.l2_program.specs.Checked.{checked_tree}
 use Rattle.l2_small_check.specs.Elaboration.{items}
 use Rattle.l2_small_check.specs.Tables.{elaborated, Keeps}
 use Rattle.l2_small_check.proofs.Rows.{items_after}

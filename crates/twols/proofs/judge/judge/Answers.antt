@@ -1,5 +1,5 @@
 use Rattle.std.proofs.Common.{◌≡◌}
-use Rattle.l2_syntax.specs.Programs.{program_tree}
+use Rattle.l2_program.specs.Programs.{program_tree}
 use Rattle.twols.proofs.judge.judge.Goals as goal
 
 pub returns-in-Err-BadLine : goal.returns-in-Err-BadLine

@@ -1,26 +1,10 @@
 ghost use Rattle.std.specs.Prelude.{◌≡◌};
-ghost use Rattle.l2_syntax.specs.Kinds.{kind_text};
+ghost use Rattle.l2_program.specs.Kinds.{kind_text};
 
 use crate::checked::Checked;
-use crate::place::Place;
-use crate::token::Name;
-use l2_bits::{List, Ty};
-
-/// What a cell holds: a number of an integer type, or a pointer.
-#[derive(Clone, Copy, Debug, PartialEq, Eq)]
-pub enum CellType {
-    Integer(Ty),
-    Pointer,
-}
-
-/// A cell's value. `At` is an object's number and an offset in cells from 0 to the object's cell count.
-#[derive(Clone, Copy, Debug, PartialEq, Eq)]
-pub enum CellValue {
-    Number(i128),
-    Null,
-    Invalid,
-    At { object: u32, offset: u32 },
-}
+use l2_bits::List;
+use l2_runs::{CellType, CellValue};
+use l2_syntax::{Name, Place};
 
 /// The ten kinds of check, in their order at one place.
 #[derive(Clone, Copy, Debug, PartialEq, Eq)]

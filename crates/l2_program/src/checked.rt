@@ -1,6 +1,5 @@
-use crate::operators::{BinaryOperator, UnaryOperator};
-use crate::program::CellValue;
 use l2_bits::Ty;
+use l2_runs::{BinaryOperator, CellValue, UnaryOperator};
 
 /// What names cells of the store.
 #[derive(Drop)]

@@ -1,7 +1,7 @@
 -- The store: the cells of each object, and whether it is live.
 use Rattle.std.specs.Prelude.{ℕ, ◌-◌, ℤ, pos, Bool, false, List, [], slice_index_or, slice_set}
-use Rattle.l2_syntax.specs.declared.program.CellValue.{CellValue}
-use Rattle.l2_syntax.specs.declared.program.CellValue.TheVariants.{Number}
+use Rattle.l2_runs.specs.declared.cells.CellValue.{CellValue}
+use Rattle.l2_runs.specs.declared.cells.CellValue.TheVariants.{Number}
 
 pub record Object : Type 0 where
   pub cells : List CellValue

@@ -1,15 +1,15 @@
 -- Programs' trees as definitions speak of them: without addresses.
 use Rattle.std.specs.Prelude.{ℕ, List, [], ◌∷◌}
 use Rattle.l2_bits.specs.declared.types.Ty.{Ty}
-use Rattle.l2_syntax.specs.declared.program.CellValue.{CellValue}
-use Rattle.l2_syntax.specs.declared.operators.UnaryOperator.{UnaryOperator}
-use Rattle.l2_syntax.specs.declared.operators.BinaryOperator.{BinaryOperator}
-use Rattle.l2_syntax.specs.declared.checked.Lvalue.{Lvalue}
-use Rattle.l2_syntax.specs.declared.checked.Lvalue.TheVariants as lvalue
-use Rattle.l2_syntax.specs.declared.checked.Typed as typed
-use Rattle.l2_syntax.specs.declared.checked.Typed.{Typed}
-use Rattle.l2_syntax.specs.declared.checked.Checked as checked
-use Rattle.l2_syntax.specs.declared.checked.Checked.{Checked, Row_of-Checked, end_of-Checked, more_of-Checked}
+use Rattle.l2_runs.specs.declared.cells.CellValue.{CellValue}
+use Rattle.l2_runs.specs.declared.operators.UnaryOperator.{UnaryOperator}
+use Rattle.l2_runs.specs.declared.operators.BinaryOperator.{BinaryOperator}
+use Rattle.l2_program.specs.declared.checked.Lvalue.{Lvalue}
+use Rattle.l2_program.specs.declared.checked.Lvalue.TheVariants as lvalue
+use Rattle.l2_program.specs.declared.checked.Typed as typed
+use Rattle.l2_program.specs.declared.checked.Typed.{Typed}
+use Rattle.l2_program.specs.declared.checked.Checked as checked
+use Rattle.l2_program.specs.declared.checked.Checked.{Checked, Row_of-Checked, end_of-Checked, more_of-Checked}
 
 mutual
   pub data LvalueTree : Type 0 where

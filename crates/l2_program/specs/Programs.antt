@@ -2,14 +2,14 @@
 use Rattle.std.specs.Prelude.{ℕ, ℤ, List, map}
 use Rattle.l2_syntax.specs.declared.place.Place.{Place}
 use Rattle.l2_syntax.specs.declared.token.Name.{Name}
-use Rattle.l2_syntax.specs.declared.program.CellType.{CellType}
-use Rattle.l2_syntax.specs.declared.program.ObjectInfo.{ObjectInfo}
-use Rattle.l2_syntax.specs.declared.program.FunctionInfo.{FunctionInfo}
-use Rattle.l2_syntax.specs.declared.program.LoopInfo.{LoopInfo}
-use Rattle.l2_syntax.specs.declared.program.CheckInfo.{CheckInfo}
-use Rattle.l2_syntax.specs.declared.program.StaticValue.{StaticValue}
-use Rattle.l2_syntax.specs.declared.program.Program as rust
-use Rattle.l2_syntax.specs.Checked.{CheckedTree, checked_tree}
+use Rattle.l2_runs.specs.declared.cells.CellType.{CellType}
+use Rattle.l2_program.specs.declared.program.ObjectInfo.{ObjectInfo}
+use Rattle.l2_program.specs.declared.program.FunctionInfo.{FunctionInfo}
+use Rattle.l2_program.specs.declared.program.LoopInfo.{LoopInfo}
+use Rattle.l2_program.specs.declared.program.CheckInfo.{CheckInfo}
+use Rattle.l2_program.specs.declared.program.StaticValue.{StaticValue}
+use Rattle.l2_program.specs.declared.program.Program as rust
+use Rattle.l2_program.specs.Checked.{CheckedTree, checked_tree}
 
 pub record FunctionTree : Type 0 where
   pub name : ℕ

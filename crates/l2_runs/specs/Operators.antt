@@ -3,10 +3,10 @@ use Rattle.std.specs.Prelude.{ℤ, pos, Bool, int_lt, int_le, if◌then◌else�
 use Rattle.std.specs.Ordering.{int_eq}
 use Rattle.l2_bits.specs.declared.types.Ty.{Ty}
 use Rattle.l2_bits.specs.Operators.{add, sub, mul}
-use Rattle.l2_syntax.specs.declared.operators.UnaryOperator.{UnaryOperator}
-use Rattle.l2_syntax.specs.declared.operators.UnaryOperator.TheVariants.{Negate, Not}
-use Rattle.l2_syntax.specs.declared.operators.BinaryOperator.{BinaryOperator}
-use Rattle.l2_syntax.specs.declared.operators.BinaryOperator.TheVariants.{Multiply, Add, Subtract, Less, LessEqual, Greater, GreaterEqual, Equal, NotEqual}
+use Rattle.l2_runs.specs.declared.operators.UnaryOperator.{UnaryOperator}
+use Rattle.l2_runs.specs.declared.operators.UnaryOperator.TheVariants.{Negate, Not}
+use Rattle.l2_runs.specs.declared.operators.BinaryOperator.{BinaryOperator}
+use Rattle.l2_runs.specs.declared.operators.BinaryOperator.TheVariants.{Multiply, Add, Subtract, Less, LessEqual, Greater, GreaterEqual, Equal, NotEqual}
 
 -- 1 where it holds, else 0
 abbrev pub truth : Bool → ℤ

@@ -1,4 +1,4 @@
-// The operators of the trees after checking.
+// The operators of trees and of code.
 
 /// A unary operator.
 #[derive(Clone, Copy, Debug, PartialEq, Eq)]

@@ -1,0 +1,10 @@
+//! Programs after checking: their trees, their lists of objects, functions, loops and checks.
+#![tactic(auto)]
+
+mod checked;
+mod program;
+
+pub use checked::{Checked, Lvalue, Typed};
+pub use program::{
+    CheckInfo, FunctionInfo, Kind, LoopInfo, ObjectInfo, Program, StaticValue,
+};

@@ -1,0 +1,4 @@
+pub mod Store
+pub mod Runs
+pub mod Loops
+pub mod Operators
