@@ -1,14 +1,14 @@
 -- Declarations behind specifiers, whoever reads them: declarators with commas between them, up to the semicolon.
-use Rattle.std.proofs.Common.{◌≡◌, refl, ◌∙◌, ap, Bool, true, false, cond, List, [], ◌∷◌, Option, None, Some}
+use Rattle.std.proofs.Common.{◌≡◌, refl, ◌∙◌, ap, false, List, ◌∷◌, Option, Some}
 use Rattle.l2_syntax.specs.declared.place.Place.{Place}
 use Rattle.l2_syntax.specs.declared.token.Mark.TheVariants as mark
 use Rattle.l2_syntax.specs.declared.token.TokenKind.{TokenKind}
 use Rattle.l2_syntax.specs.declared.token.TokenKind.TheVariants as kind
 use Rattle.l2_grammar.specs.Marks.{is}
 use Rattle.l2_grammar.specs.Trees.{Tree, token, child}
-use Rattle.l2_tree.specs.Trees.{SpecifierTrees, DeclaratorTree, InitialiserTree, DeclaredTree, Uninitialised, Initialised, DeclaredTrees, no_declarators, and_declarator, DeclarationTree, Declaration}
+use Rattle.l2_tree.specs.Trees.{SpecifierTrees, DeclaratorTree, InitialiserTree, Uninitialised, Initialised, DeclaredTrees, no_declarators, and_declarator, DeclarationTree, Declaration}
 use Rattle.l2_tree.specs.Spelling.{nowhere, closed, comma_if, has_declarators, declarators_onto}
-use Rattle.l2_tree.specs.Build.{Built, Part, leaf, node, built, parts_of, parts_before, and_then, only, heads, specifiers, declared, declarator_of, initialiser_of, declarators, initialised, declared_end}
+use Rattle.l2_tree.specs.Build.{Built, Part, leaf, node, built, parts_of, parts_before, and_then, only, heads, specifiers, declared, declarator_of, initialiser_of, declarators, declared_end}
 use Rattle.l2_tree_laws.proofs.Runs.{Runs, RunsIf, as_runs, if_token}
 use Rattle.l2_tree_laws.proofs.BackSteps.{Whole}
 

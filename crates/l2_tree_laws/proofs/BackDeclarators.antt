@@ -11,10 +11,10 @@ use Rattle.l2_tree.specs.declared.operators.SpecifierWord.{SpecifierWord}
 use Rattle.l2_tree.specs.declared.expression.Tag.{Tag}
 use Rattle.l2_tree.specs.declared.expression.Pointer.{Pointer}
 use Rattle.l2_tree.specs.declared.expression.Pointer.TheVariants as pointer
-use Rattle.l2_tree.specs.Trees.{ExprTree, SpecifierTree, Word, TypeName, Struct, StructBody, Enum, EnumBody, SpecifierTrees, EnumeratorTree, Plain, Valued, EnumeratorTrees, and_enumerator, ParameterTree, Bare, Declared, ParameterTrees, no_parameters, and_parameter, DeclaratorTree, Declarator, CoreTree, Absent, Named, Group, Array, ArrayOf, Parameters, SuffixTrees, no_suffixes, and_suffix, InitialiserTree, Expression, Braced, InitialiserTrees, first_initialiser, and_initialiser, Uninitialised, Initialised, DeclaredTrees, no_declarators, and_declarator, DeclarationTree, Declaration, DeclarationTrees, no_declarations, and_declaration}
+use Rattle.l2_tree.specs.Trees.{ExprTree, SpecifierTree, Word, Struct, StructBody, Enum, EnumBody, SpecifierTrees, Plain, Valued, EnumeratorTrees, ParameterTree, ParameterTrees, no_parameters, and_parameter, DeclaratorTree, Declarator, CoreTree, Absent, Named, Group, Array, ArrayOf, Parameters, SuffixTrees, no_suffixes, and_suffix, InitialiserTree, Braced, InitialiserTrees, first_initialiser, and_initialiser, DeclarationTrees, no_declarations}
 use Rattle.l2_tree.specs.Spelling.{nowhere, word_mark, pointer_onto, pointers_onto}
-use Rattle.l2_tree.specs.Build.{Built, Part, leaf, node, built, parts_of, parts_before, and_then, on_mark, only, heads, some_or, simple_of, specifies, expr_of, tag, add_specifier, specifiers, struct_body, struct_tag, members, enum_body, enum_tag, enumerators, add_enumerator, behind_enumerator, pointers, core, group, suffixes, array, parameters, behind_parameter, declarator_of, declarator_behind, parameter_of, parameter_behind, initialiser_of, behind_item, behind_comma, declarators, initialised, declared, declared_end, declaration_of}
-use Rattle.l2_tree_laws.proofs.Runs.{Runs, RunsIf, by_token, by_child}
+use Rattle.l2_tree.specs.Build.{Part, leaf, node, built, parts_of, and_then, only, heads, simple_of, expr_of, add_specifier, specifiers, members, enumerators, add_enumerator, behind_enumerator, pointers, group, suffixes, behind_parameter, declarator_of, declarator_behind, parameter_of, initialiser_of, behind_item}
+use Rattle.l2_tree_laws.proofs.Runs.{RunsIf}
 use Rattle.l2_tree_laws.proofs.Firsts.{typed_parameter, untyped_declarator}
 use Rattle.l2_tree_laws.proofs.BackMarks.{simple_word}
 use Rattle.l2_tree_laws.proofs.BackSteps.{Whole}
@@ -107,12 +107,12 @@ pointers_go {r = r} qs [] i = record { goes = λ m d. i.goes m d ∙ ap (λ x. p
     nil_right (x ∷ xs) = ap (λ y. x ∷ y) (nil_right xs)
 pointers_go qs (pointer.Plain p ∷ ps) i =
     let step : RunsIf (heads mark.Const) declarator_of (pointer_onto _ (pointer.Plain p)) (λ m. pointed (pointers (qs ++ (pointer.Plain p ∷ [])) m)) =
-          record { goes = λ m d. i.goes (leaf (kind.Mark mark.Star) p ∷ m) refl ∙ plain_pointer_goes qs p m d } in
+    record { goes = λ m d. i.goes (leaf (kind.Mark mark.Star) p ∷ m) refl ∙ plain_pointer_goes qs p m d } in
     let more = pointers_go (qs ++ (pointer.Plain p ∷ [])) ps step in
     record { goes = λ m d. more.goes m d ∙ ap (λ x. pointed (pointers x m)) (append_assoc qs (pointer.Plain p ∷ []) ps) }
 pointers_go qs (pointer.Const p q ∷ ps) i =
     let step : RunsIf (heads mark.Const) declarator_of (pointer_onto _ (pointer.Const p q)) (λ m. pointed (pointers (qs ++ (pointer.Const p q ∷ [])) m)) =
-          record { goes = λ m d. i.goes (leaf (kind.Mark mark.Star) p ∷ leaf (kind.Mark mark.Const) q ∷ m) refl } in
+    record { goes = λ m d. i.goes (leaf (kind.Mark mark.Star) p ∷ leaf (kind.Mark mark.Const) q ∷ m) refl } in
     let more = pointers_go (qs ++ (pointer.Const p q ∷ [])) ps step in
     record { goes = λ m d. more.goes m d ∙ ap (λ x. pointed (pointers x m)) (append_assoc qs (pointer.Const p q ∷ []) ps) }
 

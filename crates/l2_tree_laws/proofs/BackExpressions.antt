@@ -1,16 +1,15 @@
 -- What is built of the run of an expression, of a type or of a declaration is that expression, type or declaration.
-use Rattle.std.proofs.Common.{◌≡◌, refl, ◌∙◌, ap, Bool, true, false, cond, not, ◌&&◌, ◌||◌, ℕ, List, [], ◌∷◌, ◌++◌, Option, None, Some}
+use Rattle.std.proofs.Common.{refl, ◌∙◌, ap, Bool, true, false, List, [], ◌∷◌, Option, None, Some}
 use Rattle.l2_syntax.specs.declared.place.Place.{Place}
 use Rattle.l2_syntax.specs.declared.token.Mark.TheVariants as mark
-use Rattle.l2_syntax.specs.declared.token.TokenKind.{TokenKind}
 use Rattle.l2_syntax.specs.declared.token.TokenKind.TheVariants as kind
 use Rattle.l2_grammar.specs.declared.states.Sort.{Sort}
 use Rattle.l2_grammar.specs.Marks.{is}
-use Rattle.l2_grammar.specs.Trees.{Tree, begin, token, child}
+use Rattle.l2_grammar.specs.Trees.{Tree, begin, child}
 use Rattle.l2_tree.specs.declared.expression.Pointer.{Pointer}
 use Rattle.l2_tree.specs.Trees.{ExprTree, Name, Number, Text, Parenthesised, Index, Call, Member, PostUpdate, Update, Unary, Sizeof, SizeofType, Cast, Binary, Conditional, Assign, Comma, ExprTrees, no_exprs, and_expr, SpecifierTree, Word, TypeName, Struct, StructBody, Enum, EnumBody, SpecifierTrees, first_specifier, and_specifier, EnumeratorTree, Plain, Valued, EnumeratorTrees, first_enumerator, and_enumerator, ParameterTree, Bare, Declared, ParameterTrees, no_parameters, and_parameter, DeclaratorTree, Declarator, CoreTree, Absent, Named, Group, SuffixTree, Array, ArrayOf, Parameters, SuffixTrees, no_suffixes, and_suffix, InitialiserTree, Expression, Braced, InitialiserTrees, first_initialiser, and_initialiser, DeclaredTree, Uninitialised, Initialised, DeclaredTrees, no_declarators, and_declarator, DeclarationTree, Declaration, DeclarationTrees, no_declarations, and_declaration, ExternalTree}
-use Rattle.l2_tree.specs.Spelling.{nowhere, mark_at, closed, comma_if, has_arguments, has_parameters, run_expr, arguments_onto, specifier_onto, specifiers_onto, members_onto, enumerator_onto, enumerators_onto, run_parameter, parameters_onto, pointers_onto, core_onto, suffix_onto, suffixes_onto, run_declarator, run_initialiser, initialisers_onto, declared_onto, declarators_onto, declaration_onto}
-use Rattle.l2_tree.specs.Build.{Built, Part, leaf, node, built, parts_of, parts_before, and_then, only, heads, tail, expr_of, add_specifier, specifiers, members, enumerators, add_enumerator, behind_enumerator, pointers, declarator_of, parameter_of, parameter_behind, initialiser_of, behind_item, declarators, declared, declaration_of}
+use Rattle.l2_tree.specs.Spelling.{nowhere, mark_at, closed, comma_if, has_arguments, has_parameters, run_expr, arguments_onto, specifier_onto, specifiers_onto, members_onto, enumerator_onto, enumerators_onto, run_parameter, parameters_onto, core_onto, suffix_onto, suffixes_onto, run_declarator, run_initialiser, initialisers_onto, declared_onto, declarators_onto, declaration_onto}
+use Rattle.l2_tree.specs.Build.{Part, leaf, node, built, parts_of, and_then, only, heads, tail, expr_of, add_specifier, specifiers, members, enumerators, add_enumerator, behind_enumerator, pointers, declarator_of, parameter_of, parameter_behind, initialiser_of, behind_item, declared, declaration_of}
 use Rattle.l2_tree_laws.proofs.Runs.{Runs, RunsIf, by_begin, by_token, by_child, as_runs, if_any, if_token, if_child, as_if}
 use Rattle.l2_tree_laws.proofs.Firsts.{initialiser_expr}
 use Rattle.l2_tree_laws.proofs.BackMarks.{word_opens_no_brace}

@@ -1,5 +1,5 @@
 -- What an operator's mark begins is the operator.
-use Rattle.std.proofs.Common.{◌≡◌, refl, Bool, true, false, Some}
+use Rattle.std.proofs.Common.{◌≡◌, refl, false, Some}
 use Rattle.l2_syntax.specs.declared.place.Place.{Place}
 use Rattle.l2_syntax.specs.declared.token.Mark.TheVariants as mark
 use Rattle.l2_syntax.specs.declared.token.TokenKind.TheVariants as kind
@@ -20,7 +20,7 @@ use Rattle.l2_tree.specs.declared.starts.Opening.TheVariants as opening
 use Rattle.l2_tree.specs.declared.starts.Continuation.TheVariants as continuation
 use Rattle.l2_tree.specs.Trees.{Word}
 use Rattle.l2_tree.specs.Spelling.{unary_mark, update_mark, member_mark, binary_mark, assignment_mark, word_mark}
-use Rattle.l2_tree.specs.Build.{opening_mark, continuation_mark, word_of, simple_of}
+use Rattle.l2_tree.specs.Build.{opening_mark, continuation_mark, simple_of}
 
 pub opens_unary : (o : UnaryOperator) → opening_mark (unary_mark o) ≡ Some (opening.Unary o)
 opens_unary unary.Address = refl

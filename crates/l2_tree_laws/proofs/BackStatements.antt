@@ -1,5 +1,5 @@
 -- What is built of the run of a statement or of a unit is that statement or unit.
-use Rattle.std.proofs.Common.{◌≡◌, refl, ◌∙◌, ap, sym, Bool, true, false, cond, ℕ, List, [], ◌∷◌, ◌++◌, Option, None, Some}
+use Rattle.std.proofs.Common.{◌≡◌, refl, ◌∙◌, ap, sym, true, false, ℕ, List, [], ◌∷◌, ◌++◌, Option, None, Some}
 use Rattle.std.proofs.lemmas.List.{append_assoc}
 use Rattle.l2_syntax.specs.declared.place.Place.{Place}
 use Rattle.l2_syntax.specs.declared.token.Mark.{Mark}
@@ -7,14 +7,12 @@ use Rattle.l2_syntax.specs.declared.token.Mark.TheVariants as mark
 use Rattle.l2_syntax.specs.declared.token.TokenKind.{TokenKind}
 use Rattle.l2_syntax.specs.declared.token.TokenKind.TheVariants as kind
 use Rattle.l2_grammar.specs.declared.states.Sort.{Sort}
-use Rattle.l2_grammar.specs.declared.states.Sort.TheVariants as sort
 use Rattle.l2_grammar.specs.Marks.{is}
 use Rattle.l2_grammar.specs.Trees.{Tree, begin, token, child}
-use Rattle.l2_grammar.proofs.Tokens.{is_mark}
 use Rattle.l2_tree.specs.declared.starts.Opening.{Opening}
-use Rattle.l2_tree.specs.Trees.{ExprTree, SpecifierTrees, DeclaratorTree, DeclarationTree, FirstTree, NoFirst, FirstExpression, FirstDeclaration, StmtTree, Declare, Block, Evaluate, Empty, If, IfElse, While, Switch, Do, For, Case, Default, Label, Break, Continue, Return, ReturnValue, StmtTrees, no_stmts, and_stmt, BranchTree, Branch, BranchTrees, first_branch, and_branch, ExternalTree, Nothing, Global, Typedef, Function}
-use Rattle.l2_tree.specs.Spelling.{nowhere, mark_at, closed, behind, within, run_expr, run_declarator, specifiers_onto, run_declaration, declaration_onto, perhaps, first_onto, run_stmt, stmts_onto, branch_onto, branches_onto, run_external, externals_onto, run_unit}
-use Rattle.l2_tree.specs.Build.{Built, Part, leaf, node, built, parts_of, parts_before, and_then, on_mark, only, heads, opening_mark, opening_of, is_specifier_mark, is_specifier, specifies, leader_mark, leader_of, label_of, expr_of, opened, specifiers, declarator_of, declarators, declared, declaration_of, items, branch, behind_branch, behind_else, add_branch, controlled, perhaps_until, first, first_of, for_body, before_semicolon, evaluated, plain_stmt, labelled, stmt_of, external_behind, external_of, externals, unit_of}
+use Rattle.l2_tree.specs.Trees.{ExprTree, SpecifierTrees, DeclaratorTree, DeclarationTree, FirstTree, NoFirst, FirstExpression, FirstDeclaration, StmtTree, Declare, Block, Evaluate, Empty, If, IfElse, While, Switch, Do, For, Case, Default, Label, Break, Continue, Return, ReturnValue, StmtTrees, no_stmts, and_stmt, Branch, BranchTrees, first_branch, and_branch, ExternalTree, Nothing, Global, Typedef, Function}
+use Rattle.l2_tree.specs.Spelling.{nowhere, mark_at, closed, behind, run_declaration, declaration_onto, perhaps, first_onto, run_stmt, stmts_onto, branches_onto, run_external, externals_onto, run_unit}
+use Rattle.l2_tree.specs.Build.{Part, leaf, node, built, parts_of, parts_before, and_then, heads, opening_mark, opening_of, is_specifier_mark, is_specifier, specifies, leader_mark, leader_of, label_of, expr_of, opened, specifiers, declarator_of, declared, declaration_of, items, branch, behind_branch, add_branch, controlled, perhaps_until, first, for_body, before_semicolon, evaluated, stmt_of, external_behind, external_of, externals, unit_of}
 use Rattle.l2_tree_laws.proofs.Runs.{Runs, by_begin, by_token, by_child, as_runs, if_child}
 use Rattle.l2_tree_laws.proofs.Firsts.{some_of, not_some, untyped, typed}
 use Rattle.l2_tree_laws.proofs.BackSteps.{Whole, whole_expr}

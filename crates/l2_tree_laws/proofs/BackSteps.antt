@@ -1,8 +1,7 @@
 -- How reading goes on behind each part of an expression, of specifiers, of a declarator and of a declaration.
-use Rattle.std.proofs.Common.{◌≡◌, refl, ◌∙◌, ap, sym, ℕ, Bool, true, false, cond, ◌&&◌, not, List, [], ◌∷◌, Option, None, Some}
+use Rattle.std.proofs.Common.{◌≡◌, refl, ◌∙◌, ap, ℕ, cond, List, [], ◌∷◌, Option, Some}
 use Rattle.l2_syntax.specs.declared.place.Place.{Place}
 use Rattle.l2_syntax.specs.declared.token.Mark.TheVariants as mark
-use Rattle.l2_syntax.specs.declared.token.TokenKind.{TokenKind}
 use Rattle.l2_syntax.specs.declared.token.TokenKind.TheVariants as kind
 use Rattle.l2_grammar.specs.Marks.{is}
 use Rattle.l2_grammar.specs.Trees.{Tree}
@@ -11,11 +10,10 @@ use Rattle.l2_tree.specs.declared.operators.UpdateOperator.{UpdateOperator}
 use Rattle.l2_tree.specs.declared.operators.MemberOperator.{MemberOperator}
 use Rattle.l2_tree.specs.declared.operators.BinaryOperator.{BinaryOperator}
 use Rattle.l2_tree.specs.declared.operators.AssignmentOperator.{AssignmentOperator}
-use Rattle.l2_tree.specs.declared.starts.Opening.TheVariants as opening
 use Rattle.l2_tree.specs.declared.starts.Continuation.TheVariants as continuation
-use Rattle.l2_tree.specs.Trees.{ExprTree, Name, Parenthesised, Index, Call, Member, PostUpdate, Update, Unary, Sizeof, SizeofType, Cast, Binary, Conditional, Assign, Comma, ExprTrees, no_exprs, and_expr, ParameterTree}
+use Rattle.l2_tree.specs.Trees.{ExprTree, Parenthesised, Index, Call, Member, PostUpdate, Update, Unary, Sizeof, SizeofType, Cast, Binary, Conditional, Assign, Comma, ExprTrees, no_exprs, and_expr, ParameterTree}
 use Rattle.l2_tree.specs.Spelling.{nowhere, unary_mark, update_mark, member_mark, binary_mark, assignment_mark}
-use Rattle.l2_tree.specs.Build.{Built, Part, leaf, node, built, parts_of, and_then, on_mark, opening_mark, continuation_mark, tail, continued, arguments, opened, cast, sized, specifies, brackets, expr_of, parameter_of, type_name_of}
+use Rattle.l2_tree.specs.Build.{Part, leaf, node, built, parts_of, and_then, tail, continued, arguments, opened, cast, expr_of, parameter_of, type_name_of}
 use Rattle.l2_tree_laws.proofs.Runs.{Runs}
 use Rattle.l2_tree_laws.proofs.Firsts.{untyped, unbracketed, typed_parameter}
 use Rattle.l2_tree_laws.proofs.BackMarks.{opens_unary, opens_update, goes_on_update, goes_on_member, goes_on_binary, goes_on_assignment}
@@ -117,5 +115,5 @@ pub sizeof_type_begins : {r : Tree} {t : ParameterTree} (p q : Place) → Whole 
 unfolding is
 sizeof_type_begins {r = r} {t = t} p q i m =
     ap (λ b. cond b (and_then (and_then (parameter_of (parts_of r)) (at_place q)) (λ t. tail (SizeofType p t.0 t.1) m)) (and_then (expr_of (leaf (kind.Mark mark.OpenParenthesis) q ∷ node (built (parts_of r)) ∷ leaf (kind.Mark mark.CloseParenthesis) nowhere ∷ [])) (λ a. tail (Sizeof p a) m)))
-        (typed_parameter (parts_of r) t i.is_whole)
+    (typed_parameter (parts_of r) t i.is_whole)
     ∙ ap (λ x. and_then (and_then x (at_place q)) (λ t. tail (SizeofType p t.0 t.1) m)) i.is_whole

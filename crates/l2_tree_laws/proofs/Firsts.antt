@@ -1,5 +1,5 @@
 -- What a construct begins with says what it is.
-use Rattle.std.proofs.Common.{◌≡◌, refl, ◌∙◌, ap, sym, ℕ, Bool, true, false, cond, ◌&&◌, not, List, [], ◌∷◌, Option, None, Some}
+use Rattle.std.proofs.Common.{◌≡◌, refl, ◌∙◌, ap, sym, Bool, true, false, cond, ◌&&◌, List, [], ◌∷◌, Option, None, Some}
 use Rattle.l2_syntax.specs.declared.place.Place.{Place}
 use Rattle.l2_syntax.specs.declared.token.Mark.{Mark}
 use Rattle.l2_syntax.specs.declared.token.Mark.TheVariants as mark
@@ -7,8 +7,8 @@ use Rattle.l2_syntax.specs.declared.token.TokenKind.{TokenKind}
 use Rattle.l2_syntax.specs.declared.token.TokenKind.TheVariants as kind
 use Rattle.l2_grammar.specs.Marks.{is}
 use Rattle.l2_tree.specs.declared.starts.Opening.{Opening}
-use Rattle.l2_tree.specs.Trees.{ExprTree, Parenthesised, SpecifierTrees, ParameterTree, CoreTree, Absent, SuffixTrees, no_suffixes, DeclaratorTree, InitialiserTree, Expression}
-use Rattle.l2_tree.specs.Build.{Built, Part, leaf, node, and_then, on_mark, opening_mark, opening_of, is_specifier_mark, is_specifier, specifies, expr_of, opened, cast, brackets, specifiers, parameter_of, parameter_behind, pointers, core, suffixes, declarator_of, declarator_behind, initialiser_of}
+use Rattle.l2_tree.specs.Trees.{ExprTree, Parenthesised, SpecifierTrees, ParameterTree, Absent, no_suffixes, DeclaratorTree, Expression}
+use Rattle.l2_tree.specs.Build.{Built, Part, leaf, node, and_then, opening_mark, opening_of, is_specifier_mark, is_specifier, specifies, expr_of, opened, cast, brackets, specifiers, parameter_of, parameter_behind, core, suffixes, declarator_of, initialiser_of}
 
 -- ---- options
 

@@ -7,3 +7,8 @@ pub mod BackDeclarations
 pub mod BackExpressions
 pub mod BackStatements
 pub mod Unique
+pub mod Forms
+pub mod FormTokens
+pub mod FormChildren
+pub mod Built
+pub mod Firstly

@@ -1,8 +1,8 @@
 -- What reading the parts of a tree, and then more, comes to.
-use Rattle.std.proofs.Common.{◌≡◌, refl, ◌∙◌, Bool, false, List, [], ◌∷◌}
+use Rattle.std.proofs.Common.{◌≡◌, refl, ◌∙◌, Bool, false, List, ◌∷◌}
 use Rattle.l2_grammar.specs.declared.states.Sort.{Sort}
 use Rattle.l2_grammar.specs.Trees.{Seen, Tree, begin, token, child}
-use Rattle.l2_tree.specs.Build.{Built, Part, leaf, node, built, parts_of, parts_before}
+use Rattle.l2_tree.specs.Build.{Part, leaf, node, built, parts_of, parts_before}
 
 -- reading so comes to what reading the rest so does
 pub record Runs {R : Type 0} (g : List Part → R) (r : Tree) (h : List Part → R) : Type 0 where

@@ -1,6 +1,6 @@
 -- A unit's run and its tokens determine the unit.
-use Rattle.std.proofs.Common.{◌≡◌, ap, sym, ◌∙◌, subst, List, Some}
-use Rattle.l2_grammar.specs.Law.{Spells, UniqueLaw}
+use Rattle.std.proofs.Common.{◌≡◌, ap, sym, ◌∙◌, List, Some}
+use Rattle.l2_grammar.specs.Law.{Spells}
 use Rattle.l2_grammar.specs.Trees.{Seen}
 use Rattle.l2_grammar.proofs.Fed.{unique}
 use Rattle.l2_tree.specs.Trees.{ExternalTree}

@@ -11,9 +11,9 @@ use Rattle.l2_tree.specs.Build.{parts_of, expr_of, unit_of}
 
 -- ---- a unit
 
--- a unit that was read is built
+-- a unit that was read, of tokens as trees keep them, is built
 abbrev pub UnitBuiltLaw : Type 0
-UnitBuiltLaw = (u : Tree) → IsUnit u → unit_of (parts_of u) ≡ None → ⊥
+UnitBuiltLaw = (u : Tree) → IsUnit u → Keeps u → unit_of (parts_of u) ≡ None → ⊥
 
 -- what is built has the run that it was built from
 abbrev pub UnitRunLaw : Type 0
@@ -34,7 +34,7 @@ UniqueTreeLaw = (ts : List Seen) (xs ys : List ExternalTree) → Spells ts (run_
 -- ---- an expression
 
 abbrev pub ExpressionBuiltLaw : Type 0
-ExpressionBuiltLaw = (l : Level) (r : Tree) → IsExpression l r → expr_of (parts_of r) ≡ None → ⊥
+ExpressionBuiltLaw = (l : Level) (r : Tree) → IsExpression l r → Keeps r → expr_of (parts_of r) ≡ None → ⊥
 
 abbrev pub ExpressionRunLaw : Type 0
 ExpressionRunLaw = (l : Level) (r : Tree) (e : ExprTree) → IsExpression l r → Keeps r → expr_of (parts_of r) ≡ Some e → run_expr (sort_at l) e ≡ r

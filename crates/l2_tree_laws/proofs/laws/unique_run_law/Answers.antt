@@ -1,6 +1,5 @@
 use Rattle.l2_tree_laws.proofs.Unique.{unique_run}
 use Rattle.l2_tree_laws.proofs.laws.unique_run_law.Goals as goal
 
--- src/laws.rt:14:1
 pub returns : goal.returns
 returns c = unique_run
