@@ -1,5 +1,5 @@
 -- A construct among the parts.
-use Rattle.std.proofs.Common.{◌≡◌, ◌≤◌, ℕ, ◌+◌, ◌-◌, List, [], ◌∷◌, length, take, drop, get_or, refl, ap, sym, ◌∙◌, arith}
+use Rattle.std.proofs.Common.{◌≡◌, ◌≤◌, ℕ, ◌+◌, ◌-◌, List, [], ◌∷◌, ◌++◌, append-nil, length, take, drop, get_or, refl, ap, sym, ◌∙◌, arith}
 use Rattle.std.proofs.lemmas.List.{take_all}
 use Rattle.std.specs.declared.vec.Vec.{Vec}
 use Rattle.std.specs.declared.alloc.Global.{Global}
@@ -7,7 +7,10 @@ use Rattle.l2_grammar.specs.declared.states.Sort.{Sort}
 use Rattle.l2_reader.specs.declared.syntax.Syntax as syntax
 use Rattle.l2_reader.specs.declared.syntax.Syntax.{Syntax, Row_of-Syntax, end_of-Syntax, more_of-Syntax, items-the_row-Syntax, items_hidden-the_row-Syntax-0}
 use Rattle.l2_reader.specs.declared.syntax.Syntax.TheBlock as block
-use Rattle.l2_tree.specs.Build.{Part, node, built}
+use Rattle.l2_grammar.specs.Trees.{Tree, begin}
+use Rattle.l2_reader.specs.declared.syntax.Open.{Open}
+use Rattle.l2_reader.specs.Parts.{with_part, row_onto, parts_onto, tree_of}
+use Rattle.l2_tree.specs.Build.{Part, node, built, parts_before, parts_of as built_parts}
 use Rattle.l2_build.specs.Parts.{part, row_parts, parts_of, size, row_size, size_of}
 
 parts_row : {m : _} (row : Row_of-Syntax m) → row_parts row ≡ parts_of (items-the_row-Syntax m row)
@@ -42,3 +45,21 @@ parts_split (y ∷ ys) x h e = ap (λ z. part z ∷ parts_of ys) (sym e) ∙ ap 
 pub size_split : (xs : List Syntax) (x : Syntax) → 1 ≤ length xs → x ≡ get_or xs 0 x → size_of xs ≡ size x + size_of (take (length xs - 1) (drop 1 xs))
 size_split [] x h e = absurd (omega arith)
 size_split (y ∷ ys) x h e = ap (λ z. size z + size_of ys) (sym e) ∙ ap (λ zs. size x + size_of zs) (sym (rest_is y ys))
+
+-- ---- the parts of what was read are those of its tree
+
+mutual
+  pub part_before : (r : Tree) (x : Syntax) (m : List Part) → parts_before (with_part r x) m ≡ parts_before r (part x ∷ m)
+  part_before r (syntax.Token t) m = refl
+  part_before r (syntax.Construct' s shape all) m = ap (λ ps. parts_before r (node (built ps) ∷ m)) (row_before (begin s) all [] ∙ append-nil (row_parts all))
+
+  pub row_before : {k : _} (r : Tree) (row : Row_of-Syntax k) (m : List Part) → parts_before (row_onto r row) m ≡ parts_before r (row_parts row ++ m)
+  row_before r end_of-Syntax m = refl
+  row_before r (more_of-Syntax x rest) m = row_before (with_part r x) rest m ∙ part_before r x (row_parts rest ++ m)
+
+parts_onto_before : (r : Tree) (xs : List Syntax) (m : List Part) → parts_before (parts_onto r xs) m ≡ parts_before r (parts_of xs ++ m)
+parts_onto_before r [] m = refl
+parts_onto_before r (x ∷ xs) m = parts_onto_before (with_part r x) xs m ∙ part_before r x (parts_of xs ++ m)
+
+pub open_parts : (o : Open) → built_parts (tree_of o) ≡ parts_of o.parts.items
+open_parts o = parts_onto_before (begin o.sort) o.parts.items [] ∙ append-nil (parts_of o.parts.items)

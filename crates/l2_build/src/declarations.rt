@@ -38,7 +38,7 @@ fn one_declared<'a>(alloc: Global, parts: &'a [Syntax]) -> Result<OneDeclared<'a
     let Next::Leaf(mark, further) = split(behind) else {
         return Err(BuildError::Misfit);
     };
-    let declarator = declarator_of(alloc, inner)?;
+    let declarator = Box::into_inner(declarator_of(alloc, inner)?);
     if !is(Mark::Equal, mark.kind) {
         let value = uninitialised(alloc, declarator)?;
         return Ok(OneDeclared {
@@ -53,7 +53,7 @@ fn one_declared<'a>(alloc: Global, parts: &'a [Syntax]) -> Result<OneDeclared<'a
     let Next::Leaf(end, rest) = split(last) else {
         return Err(BuildError::Misfit);
     };
-    let initialiser = initialiser_of(alloc, initial)?;
+    let initialiser = Box::into_inner(initialiser_of(alloc, initial)?);
     let value = initialised(alloc, declarator, mark.place, initialiser)?;
     Ok(OneDeclared {
         value,

@@ -234,21 +234,21 @@ fn parameters<'a>(
 #[cycle(build)]
 fn suffix<'a>(
     alloc: Global,
-    open: Token,
+    bracket: Token,
     parts: &'a [Syntax],
 ) -> Result<OneSuffix<'a>, BuildError>
-    ensures ok { IfOk result (λ r. (xs : SuffixTrees) → suffixes_so xs (leaf open.kind open.place ∷ parts_of parts.now) ≡ suffixes_so (and_suffix xs (suffix_tree r.value)) (parts_of r.rest.now)) }
+    ensures ok { IfOk result (λ r. (xs : SuffixTrees) → suffixes_so xs (leaf bracket.kind bracket.place ∷ parts_of parts.now) ≡ suffixes_so (and_suffix xs (suffix_tree r.value)) (parts_of r.rest.now)) }
     ensures less { IfOk result (λ r. size_of r.rest.now ≤ size_of parts.now) }
-    ensures err { IfErr result (λ e. e ≢ BuildError.NoMemory → (xs : SuffixTrees) → suffixes_so xs (leaf open.kind open.place ∷ parts_of parts.now) ≡ None) }
+    ensures err { IfErr result (λ e. e ≢ BuildError.NoMemory → (xs : SuffixTrees) → suffixes_so xs (leaf bracket.kind bracket.place ∷ parts_of parts.now) ≡ None) }
 {
-    if is(Mark::OpenBracket, open.kind) {
-        let one = array(alloc, open.place, parts)?;
+    if is(Mark::OpenBracket, bracket.kind) {
+        let one = array(alloc, bracket.place, parts)?;
         return Ok(one);
     }
-    if !is(Mark::OpenParenthesis, open.kind) {
+    if !is(Mark::OpenParenthesis, bracket.kind) {
         return Err(BuildError::Misfit);
     }
-    let one = parameters(alloc, open.place, parts)?;
+    let one = parameters(alloc, bracket.place, parts)?;
     Ok(one)
 }
 
@@ -263,8 +263,8 @@ fn suffixes_of(alloc: Global, parts: &[Syntax]) -> Result<Vec<Suffix>, BuildErro
     let mut left = parts;
     loop {
         match split(left) {
-            Next::Leaf(open, behind) => {
-                let OneSuffix { value, rest } = suffix(alloc, open, behind)?;
+            Next::Leaf(bracket, behind) => {
+                let OneSuffix { value, rest } = suffix(alloc, bracket, behind)?;
                 all.push(value)?;
                 left = rest;
             }

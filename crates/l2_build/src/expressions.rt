@@ -74,8 +74,8 @@ fn with_size<'a>(
         return Err(BuildError::Misfit);
     };
     if brackets(inner) {
-        let TypeName { place: open, named } = type_name_of(alloc, inner)?;
-        let value = Box::new(alloc, Expr::SizeofType(place, open, named))?;
+        let TypeName { place: bracket, named } = type_name_of(alloc, inner)?;
+        let value = Box::new(alloc, Expr::SizeofType(place, bracket, named))?;
         return Ok(Operand { value, rest });
     }
     let operand = expr_of(alloc, inner)?;

@@ -71,12 +71,11 @@ pub fn bare(alloc: Global, specifiers: Specifiers) -> Result<Box<Parameter>, Bui
 pub fn with_declarator(
     alloc: Global,
     specifiers: Specifiers,
-    declarator: Box<Declarator>,
+    declarator: Declarator,
 ) -> Result<Box<Parameter>, BuildError>
-    ensures ok { IfOk result (λ t. parameter_tree t.value ≡ declared_parameter (specifiers_tree specifiers) (declarator_tree declarator.value)) }
+    ensures ok { IfOk result (λ t. parameter_tree t.value ≡ declared_parameter (specifiers_tree specifiers) (declarator_tree declarator)) }
     ensures err { IfErr result (λ f. f ≡ BuildError.NoMemory) }
 {
-    let declarator = Box::into_inner(declarator);
     Ok(Box::new(alloc, Parameter::Declared(specifiers, declarator))?)
 }
 
@@ -108,26 +107,23 @@ pub fn braced(
 }
 
 /// A declarator without an initialiser.
-pub fn uninitialised(alloc: Global, declarator: Box<Declarator>) -> Result<Box<Declared>, BuildError>
-    ensures ok { IfOk result (λ d. declared_tree d.value ≡ uninitialised_tree (declarator_tree declarator.value)) }
+pub fn uninitialised(alloc: Global, declarator: Declarator) -> Result<Box<Declared>, BuildError>
+    ensures ok { IfOk result (λ d. declared_tree d.value ≡ uninitialised_tree (declarator_tree declarator)) }
     ensures err { IfErr result (λ f. f ≡ BuildError.NoMemory) }
 {
-    let declarator = Box::into_inner(declarator);
     Ok(Box::new(alloc, Declared::Plain(declarator))?)
 }
 
 /// A declarator with an initialiser.
 pub fn initialised(
     alloc: Global,
-    declarator: Box<Declarator>,
+    declarator: Declarator,
     place: Place,
-    value: Box<Initialiser>,
+    value: Initialiser,
 ) -> Result<Box<Declared>, BuildError>
-    ensures ok { IfOk result (λ d. declared_tree d.value ≡ initialised_tree (declarator_tree declarator.value) place (initialiser_tree value.value)) }
+    ensures ok { IfOk result (λ d. declared_tree d.value ≡ initialised_tree (declarator_tree declarator) place (initialiser_tree value)) }
     ensures err { IfErr result (λ f. f ≡ BuildError.NoMemory) }
 {
-    let declarator = Box::into_inner(declarator);
-    let value = Box::into_inner(value);
     Ok(Box::new(
         alloc,
         Declared::Initialised(declarator, place, value),

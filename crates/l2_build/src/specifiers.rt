@@ -28,7 +28,7 @@ pub struct OneSpecifier<'a> {
 
 /// The members of a struct, and the parts behind the brace.
 #[derive(Drop)]
-struct Members<'a> {
+struct MemberList<'a> {
     all: Vec<Declaration>,
     rest: &'a [Syntax],
 }
@@ -58,7 +58,7 @@ pub struct Front<'a> {
 /// The members of a struct, behind its brace.
 #[cycle(build)]
 #[tactic(auto, using(l2_tree::proofs::Declarations::declarations))]
-fn members<'a>(alloc: Global, parts: &'a [Syntax]) -> Result<Members<'a>, BuildError>
+fn members<'a>(alloc: Global, parts: &'a [Syntax]) -> Result<MemberList<'a>, BuildError>
     ensures ok { IfOk result (λ r. (f : DeclarationTrees → SpecifierTrees) → members_so f no_declarations (parts_of parts.now) ≡ specifiers_so (Some (f (declarations_onto no_declarations r.all.items))) (parts_of r.rest.now)) }
     ensures less { IfOk result (λ r. size_of r.rest.now ≤ size_of parts.now) }
     ensures err { IfErr result (λ e. e ≢ BuildError.NoMemory → (f : DeclarationTrees → SpecifierTrees) → members_so f no_declarations (parts_of parts.now) ≡ None) }
@@ -74,7 +74,7 @@ fn members<'a>(alloc: Global, parts: &'a [Syntax]) -> Result<Members<'a>, BuildE
             }
             Next::Leaf(close, rest) => {
                 return if is(Mark::CloseBrace, close.kind) {
-                    Ok(Members { all, rest })
+                    Ok(MemberList { all, rest })
                 } else {
                     Err(BuildError::Misfit)
                 };
@@ -99,7 +99,7 @@ fn struct_body<'a>(
     let Next::Leaf(brace, behind) = split(parts) else {
         return Err(BuildError::Misfit);
     };
-    let Members { all, rest } = members(alloc, behind)?;
+    let MemberList { all, rest } = members(alloc, behind)?;
     let value = structure(alloc, place, tag, brace.place, all)?;
     Ok(OneSpecifier { value, rest })
 }

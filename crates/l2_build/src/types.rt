@@ -41,7 +41,7 @@ pub fn parameter_of(alloc: Global, parts: &[Syntax]) -> Result<Box<Parameter>, B
                 return Err(BuildError::Misfit);
             };
             let declarator = declarator_of(alloc, inner)?;
-            let whole = with_declarator(alloc, specifiers, declarator)?;
+            let whole = with_declarator(alloc, specifiers, Box::into_inner(declarator))?;
             Ok(whole)
         }
     }

@@ -170,14 +170,14 @@ invariant-specifiers::enumerators-loop-mark l = record {
 abbrev pub decreases-specifiers::enumerators-loop-mark : goal.decreases-specifiers::enumerators-loop-mark
 decreases-specifiers::enumerators-loop-mark l = size_of l.left
 
-abbrev pub invariant-specifiers::specifiers_of-loop-one : goal.invariant-specifiers::specifiers_of-loop-one
-invariant-specifiers::specifiers_of-loop-one l = record {
+abbrev pub invariant-specifiers::specifiers_of-loop-others : goal.invariant-specifiers::specifiers_of-loop-others
+invariant-specifiers::specifiers_of-loop-others l = record {
   so_far : specifiers (Some (specifiers_onto (first_specifier (specifier_tree l.first.value)) l.others.items)) (parts_of l.left) ≡ specifiers None (parts_of l.fn.parts);
   less : size_of l.left ≤ size_of l.fn.parts;
 }
 
-abbrev pub decreases-specifiers::specifiers_of-loop-one : goal.decreases-specifiers::specifiers_of-loop-one
-decreases-specifiers::specifiers_of-loop-one l = size_of l.left
+abbrev pub decreases-specifiers::specifiers_of-loop-others : goal.decreases-specifiers::specifiers_of-loop-others
+decreases-specifiers::specifiers_of-loop-others l = size_of l.left
 
 abbrev pub invariant-declarators::behind_parameter-loop-mark : goal.invariant-declarators::behind_parameter-loop-mark
 invariant-declarators::behind_parameter-loop-mark l = record {
@@ -188,14 +188,14 @@ invariant-declarators::behind_parameter-loop-mark l = record {
 abbrev pub decreases-declarators::behind_parameter-loop-mark : goal.decreases-declarators::behind_parameter-loop-mark
 decreases-declarators::behind_parameter-loop-mark l = size_of l.left
 
-abbrev pub invariant-declarators::suffixes_of-loop-open : goal.invariant-declarators::suffixes_of-loop-open
-invariant-declarators::suffixes_of-loop-open l = record {
+abbrev pub invariant-declarators::suffixes_of-loop-bracket : goal.invariant-declarators::suffixes_of-loop-bracket
+invariant-declarators::suffixes_of-loop-bracket l = record {
   so_far : suffixes (suffixes_onto no_suffixes l.all.items) (parts_of l.left) ≡ suffixes no_suffixes (parts_of l.fn.parts);
   less : size_of l.left ≤ size_of l.fn.parts;
 }
 
-abbrev pub decreases-declarators::suffixes_of-loop-open : goal.decreases-declarators::suffixes_of-loop-open
-decreases-declarators::suffixes_of-loop-open l = size_of l.left
+abbrev pub decreases-declarators::suffixes_of-loop-bracket : goal.decreases-declarators::suffixes_of-loop-bracket
+decreases-declarators::suffixes_of-loop-bracket l = size_of l.left
 
 abbrev pub invariant-initialisers::behind_item-loop-mark : goal.invariant-initialisers::behind_item-loop-mark
 invariant-initialisers::behind_item-loop-mark l = record {
@@ -206,12 +206,12 @@ invariant-initialisers::behind_item-loop-mark l = record {
 abbrev pub decreases-initialisers::behind_item-loop-mark : goal.decreases-initialisers::behind_item-loop-mark
 decreases-initialisers::behind_item-loop-mark l = size_of l.left
 
-abbrev pub invariant-declarations::declarators-loop-value : goal.invariant-declarations::declarators-loop-value
-invariant-declarations::declarators-loop-value l = record {
+abbrev pub invariant-declarations::declarators-loop-all : goal.invariant-declarations::declarators-loop-all
+invariant-declarations::declarators-loop-all l = record {
   so_far : (xs : SpecifierTrees) → declarators xs (declarators_onto no_declarators l.all.items) (parts_of l.left) ≡ declarators xs no_declarators (parts_of l.fn.parts);
   less : size_of l.left ≤ size_of l.fn.parts;
 }
 
-abbrev pub decreases-declarations::declarators-loop-value : goal.decreases-declarations::declarators-loop-value
-decreases-declarations::declarators-loop-value l = size_of l.left
+abbrev pub decreases-declarations::declarators-loop-all : goal.decreases-declarations::declarators-loop-all
+decreases-declarations::declarators-loop-all l = size_of l.left
 
