@@ -44,7 +44,7 @@ pub enum Further<'a> {
 
 /// `( e ) s`, behind the expression.
 #[cycle(build)]
-fn controlled_by<'a>(
+fn behind_test<'a>(
     alloc: Global,
     bracket: Token,
     inner: &[Syntax],
@@ -80,7 +80,7 @@ fn controlled_by<'a>(
 
 /// `( e ) s`.
 #[cycle(build)]
-fn controlled<'a>(alloc: Global, parts: &'a [Syntax]) -> Result<Controlled<'a>, BuildError>
+fn test_and_body<'a>(alloc: Global, parts: &'a [Syntax]) -> Result<Controlled<'a>, BuildError>
     ensures branch { IfOk result (λ r. (bs : Option BranchTrees) (p : At) → branch_so bs p (parts_of parts.now) ≡ behind_branch_so (add_branch bs p r.bracket (expr_tree r.test.value) (stmt_tree r.body.value)) (parts_of r.rest.now)) }
     ensures controls { IfOk result (λ r. (f : At → ExprTree → StmtTree → StmtTree) → controls_so f (parts_of parts.now) ≡ only (parts_of r.rest.now) (f r.bracket (expr_tree r.test.value) (stmt_tree r.body.value))) }
     ensures less { IfOk result (λ r. size_of r.rest.now < size_of parts.now) }
@@ -93,7 +93,7 @@ fn controlled<'a>(alloc: Global, parts: &'a [Syntax]) -> Result<Controlled<'a>, 
     let Next::Node(inner, rest) = split(behind) else {
         return Err(BuildError::Misfit);
     };
-    let whole = controlled_by(alloc, bracket, inner, rest)?;
+    let whole = behind_test(alloc, bracket, inner, rest)?;
     Ok(whole)
 }
 
@@ -113,7 +113,7 @@ fn one_branch<'a>(
         test,
         body,
         rest,
-    } = controlled(alloc, parts)?;
+    } = test_and_body(alloc, parts)?;
     Ok(OneBranch {
         value: Branch {
             place,
@@ -212,7 +212,7 @@ pub fn while_loop(alloc: Global, place: Place, parts: &[Syntax]) -> Result<Box<S
         test,
         body,
         rest,
-    } = controlled(alloc, parts)?;
+    } = test_and_body(alloc, parts)?;
     let Next::End = split(rest) else {
         return Err(BuildError::Misfit);
     };
@@ -231,7 +231,7 @@ pub fn switch(alloc: Global, place: Place, parts: &[Syntax]) -> Result<Box<Stmt>
         test,
         body,
         rest,
-    } = controlled(alloc, parts)?;
+    } = test_and_body(alloc, parts)?;
     let Next::End = split(rest) else {
         return Err(BuildError::Misfit);
     };

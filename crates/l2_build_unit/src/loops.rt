@@ -5,7 +5,7 @@ ghost use Rattle.l2_tree.specs.Trees.{StmtTree};
 ghost use Rattle.l2_tree.specs.Units.{stmt_tree, first_tree, perhaps_tree};
 ghost use Rattle.l2_build.specs.Parts.{parts_of};
 
-use crate::plain::{Perhaps, Started, do_while, perhaps_until, started};
+use crate::plain::{Perhaps, Started, do_while, first_part, perhaps_until};
 use crate::statements::stmt_of;
 use l2_build::{BuildError, Next, expr_of, split};
 use l2_networks::is;
@@ -68,7 +68,7 @@ pub fn for_loop(alloc: Global, place: Place, parts: &[Syntax]) -> Result<Box<Stm
     let Started {
         first,
         rest: second,
-    } = started(alloc, behind)?;
+    } = first_part(alloc, behind)?;
     let Perhaps {
         value: test,
         rest: third,

@@ -236,7 +236,7 @@ fn first_of(value: Option<Box<Expr>>) -> First
 }
 
 /// Perhaps an expression as the first part of a `for`, with its semicolon.
-fn started_plain<'a>(alloc: Global, parts: &'a [Syntax]) -> Result<Started<'a>, BuildError>
+fn first_plain<'a>(alloc: Global, parts: &'a [Syntax]) -> Result<Started<'a>, BuildError>
     ensures ok { IfOk result (λ r. and_then (perhaps_so Mark.Semicolon (parts_of parts.now)) (λ f. Some (first_of_so f.0, f.1)) ≡ Some (first_tree r.first, parts_of r.rest.now)) }
     ensures less { IfOk result (λ r. size_of r.rest.now ≤ size_of parts.now) }
     ensures err { IfErr result (λ e. e ≢ BuildError.NoMemory → and_then (perhaps_so Mark.Semicolon (parts_of parts.now)) (λ f. Some (first_of_so f.0, f.1)) ≡ None) }
@@ -249,7 +249,7 @@ fn started_plain<'a>(alloc: Global, parts: &'a [Syntax]) -> Result<Started<'a>, 
 }
 
 /// The first part of a `for`, with its semicolon.
-pub fn started<'a>(alloc: Global, parts: &'a [Syntax]) -> Result<Started<'a>, BuildError>
+pub fn first_part<'a>(alloc: Global, parts: &'a [Syntax]) -> Result<Started<'a>, BuildError>
     ensures ok { IfOk result (λ r. first_so (parts_of parts.now) ≡ Some (first_tree r.first, parts_of r.rest.now)) }
     ensures less { IfOk result (λ r. size_of r.rest.now ≤ size_of parts.now) }
     ensures err { IfErr result (λ e. e ≢ BuildError.NoMemory → first_so (parts_of parts.now) ≡ None) }
@@ -257,7 +257,7 @@ pub fn started<'a>(alloc: Global, parts: &'a [Syntax]) -> Result<Started<'a>, Bu
     match split(parts) {
         Next::Node(inner, rest) => {
             if !specifies(inner) {
-                let plain = started_plain(alloc, parts)?;
+                let plain = first_plain(alloc, parts)?;
                 return Ok(plain);
             }
             let declaration = declaration_of(alloc, inner)?;
@@ -267,7 +267,7 @@ pub fn started<'a>(alloc: Global, parts: &'a [Syntax]) -> Result<Started<'a>, Bu
             })
         }
         Next::Leaf(_, _) | Next::End => {
-            let plain = started_plain(alloc, parts)?;
+            let plain = first_plain(alloc, parts)?;
             Ok(plain)
         }
     }

@@ -5,8 +5,8 @@ use Rattle.l2_tree.specs.Units.{stmts_onto, branches_tree}
 use Rattle.l2_build.specs.Parts.{parts_of, size_of}
 use Rattle.l2_build_unit.proofs.+build.Given as goal
 
-abbrev pub decreases-branches::controlled : goal.decreases-branches::controlled
-decreases-branches::controlled l = 16 * size_of l.parts.now
+abbrev pub decreases-branches::test_and_body : goal.decreases-branches::test_and_body
+decreases-branches::test_and_body l = 16 * size_of l.parts.now
 
 abbrev pub decreases-branches::choice : goal.decreases-branches::choice
 decreases-branches::choice l = 16 * size_of l.parts.now + 2
@@ -62,8 +62,8 @@ invariant-statements::items-loop-inner l = record {
 abbrev pub decreases-statements::items-loop-inner : goal.decreases-statements::items-loop-inner
 decreases-statements::items-loop-inner l = size_of l.left
 
-abbrev pub decreases-branches::controlled_by : goal.decreases-branches::controlled_by
-decreases-branches::controlled_by l = 16 * (size_of l.inner.now + size_of l.parts.now) + 1
+abbrev pub decreases-branches::behind_test : goal.decreases-branches::behind_test
+decreases-branches::behind_test l = 16 * (size_of l.inner.now + size_of l.parts.now) + 1
 
 abbrev pub decreases-branches::one_branch : goal.decreases-branches::one_branch
 decreases-branches::one_branch l = 16 * size_of l.parts.now + 1
