@@ -54,7 +54,6 @@ fn with_initialiser<'a>(
 
 /// A declarator, perhaps with an initialiser.
 #[cycle(build)]
-#[tactic(auto, using(crate::proofs::Goes::equal_goes))]
 fn one_declared<'a>(alloc: Global, parts: &'a [Syntax]) -> Result<OneDeclared<'a>, BuildError>
     ensures ok { IfOk result (λ r. (xs : SpecifierTrees) (ds : DeclaredTrees) → declarators_so xs ds (parts_of parts.now) ≡ declared_end_so xs (and_declarator ds (declared_tree r.value.value)) r.mark (parts_of r.rest.now) (declarators_so xs (and_declarator ds (declared_tree r.value.value)) (parts_of r.rest.now))) }
     ensures less { IfOk result (λ r. size_of r.rest.now < size_of parts.now) }
@@ -122,7 +121,6 @@ fn no_declarator(alloc: Global, token: Token, parts: &[Syntax]) -> Result<Vec<De
 
 /// The declarators of a declaration, if there are any, and the semicolon.
 #[cycle(build)]
-#[tactic(auto, using(crate::proofs::Goes::declarators_go))]
 fn declarator_list(alloc: Global, parts: &[Syntax]) -> Result<Vec<Declared>, BuildError>
     ensures ok { IfOk result (λ all. (xs : SpecifierTrees) → declared_so xs (parts_of parts.now) ≡ Some (declaration_with xs (declarators_onto no_declarators all.items))) }
     ensures err { IfErr result (λ e. e ≢ BuildError.NoMemory → (xs : SpecifierTrees) → declared_so xs (parts_of parts.now) ≡ None) }
