@@ -134,10 +134,10 @@ fn behind_else<'a>(alloc: Global, parts: &'a [Syntax]) -> Result<Further<'a>, Bu
 {
     match split(parts) {
         Next::Node(inner, last) => {
+            let otherwise = stmt_of(alloc, inner)?;
             let Next::End = split(last) else {
                 return Err(BuildError::Misfit);
             };
-            let otherwise = stmt_of(alloc, inner)?;
             Ok(Further::Otherwise(otherwise))
         }
         Next::Leaf(token, rest) => {

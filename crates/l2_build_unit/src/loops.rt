@@ -45,10 +45,10 @@ fn for_body(
     let Next::Node(inner, rest) = split(parts) else {
         return Err(BuildError::Misfit);
     };
+    let body = stmt_of(alloc, inner)?;
     let Next::End = split(rest) else {
         return Err(BuildError::Misfit);
     };
-    let body = stmt_of(alloc, inner)?;
     let whole = Box::new(alloc, Stmt::For(place, bracket, first, test, step, body))?;
     Ok(whole)
 }
@@ -92,13 +92,13 @@ fn labelled_by(
     ensures ok { IfOk result (λ t. (f : StmtTree → StmtTree) → labelled_so f (leaf colon.kind colon.place ∷ node (built (parts_of inner.now)) ∷ parts_of parts.now) ≡ Some (f (stmt_tree t.value))) }
     ensures err { IfErr result (λ e. e ≢ BuildError.NoMemory → (f : StmtTree → StmtTree) → labelled_so f (leaf colon.kind colon.place ∷ node (built (parts_of inner.now)) ∷ parts_of parts.now) ≡ None) }
 {
-    let Next::End = split(parts) else {
-        return Err(BuildError::Misfit);
-    };
     if !is(Mark::Colon, colon.kind) {
         return Err(BuildError::Misfit);
     }
     let whole = stmt_of(alloc, inner)?;
+    let Next::End = split(parts) else {
+        return Err(BuildError::Misfit);
+    };
     Ok(whole)
 }
 
