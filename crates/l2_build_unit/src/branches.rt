@@ -93,8 +93,10 @@ fn test_and_body<'a>(alloc: Global, parts: &'a [Syntax]) -> Result<Controlled<'a
     let Next::Node(inner, rest) = split(behind) else {
         return Err(BuildError::Misfit);
     };
-    let whole = behind_test(alloc, bracket, inner, rest)?;
-    Ok(whole)
+    match behind_test(alloc, bracket, inner, rest) {
+        Ok(whole) => Ok(whole),
+        Err(fault) => Err(fault),
+    }
 }
 
 /// Behind an `if` or `else if`, with the place of the `if`.
