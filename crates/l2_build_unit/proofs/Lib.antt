@@ -1,3 +1,4 @@
 pub mod Labels
 pub mod Lasts
 pub mod Grown
+pub mod Goes
