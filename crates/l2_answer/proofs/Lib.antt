@@ -1,3 +1,4 @@
+pub mod Listed
 pub mod Requests
 pub mod Statuses
 pub mod Texts
