@@ -2,3 +2,4 @@ pub mod Listed
 pub mod Requests
 pub mod Statuses
 pub mod Texts
+pub mod Unique
