@@ -11,8 +11,7 @@ use Rattle.l2_reader.specs.Parts.{seen}
 use Rattle.l2_reader.specs.Turns.{seen_from}
 use Rattle.l2_lex.specs.Lexing.{Lexed}
 use Rattle.l2_tree.specs.Trees.{ExprTree}
-use Rattle.l2_tree.specs.Spelling.{plain, run_expr}
-use Rattle.l2_forms.specs.Forms.{Keeps}
+use Rattle.l2_tree.specs.Spelling.{Keeps, plain, run_expr}
 use Rattle.l2_parse_unit.specs.Reading.{kept, last_place, start}
 use Rattle.l2_parse_unit.proofs.Wholes.{AllPlain, kept_plain, keeps}
 use Rattle.l2_parse_expr.specs.Reading.{kept_from, Reads, IsRefusedFrom, nested, stopped, lexical, ended}

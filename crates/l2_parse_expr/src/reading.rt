@@ -8,13 +8,13 @@ ghost use Rattle.l2_tree.specs.Units.{expr_tree};
 ghost use Rattle.l2_parse_unit.specs.Reading.{OnRefusal, kept as as_kept};
 ghost use Rattle.l2_parse_expr.specs.Reading.{Reads, IsRefusedFrom};
 
-use l2_forms::expression as expression_of;
+use crate::built::expression_of;
 use l2_grammar::Level;
 use l2_parse_unit::{kept, last_place};
 use l2_reader::{ParseError, expression as read_expression};
 use l2_syntax::{Refusal, Rule, TextFault, Token, Tokens};
-use l2_tree::{Expr, FormError};
-use std::alloc::Global;
+use l2_tree::Expr;
+use std::alloc::{AllocError, Global};
 
 /// The refusal at a token, or behind the last.
 fn syntax_at(
@@ -96,7 +96,7 @@ pub fn expression(
     match read_expression(alloc, &plain, at, depth, level) {
         Ok((text, end)) => match expression_of(alloc, &text, level) {
             Ok(expr) => Ok((expr, end)),
-            Err(FormError::NoMemory) => Err(TextFault::NoMemory),
+            Err(AllocError) => Err(TextFault::NoMemory),
         },
         Err(cause) => Err(refusal(tokens, &plain, at, depth, level, cause)),
     }

@@ -6,12 +6,15 @@ use Rattle.l2_syntax.specs.declared.refusal.Rule.TheVariants as rule
 use Rattle.l2_syntax.specs.declared.refusal.Refusal.{Refusal}
 use Rattle.l2_grammar.specs.Trees.{Seen}
 use Rattle.l2_grammar.specs.Law.{StopsBefore, Begins}
-use Rattle.l2_grammar.specs.Limits.{Shallow, ShallowAt, NestsBefore}
+use Rattle.l2_grammar.specs.Limits as reader
+use Rattle.l2_parse_unit.specs.Depths.{Shallow, ShallowAt, NestsBefore}
 use Rattle.l2_reader.specs.Parts.{seen}
 use Rattle.l2_lex.specs.Lexing.{Lexed}
 use Rattle.l2_tree.specs.Spelling.{plain}
 use Rattle.l2_parse_unit.specs.Reading.{kept, Stops, IsRefused, nested, stopped, lexical, ended, last_place, start}
 use Rattle.l2_parse_unit.proofs.Refused.{nil_right}
+use Rattle.l2_parse_unit.proofs.Depths as depths
+use Rattle.l2_parse_unit.proofs.Depths.{found_stops, stops_so}
 
 split : (ts : List Token) (i : ℕ) (d : Token) → i < length ts → ts ≡ take i ts ++ (slice_index_or ts i d ∷ drop (i + 1) ts)
 split ts i d h = sym (take-append-drop i ts) ∙ at_drop_more (λ x. take i ts ++ x) ts i d h
@@ -32,25 +35,22 @@ at_token P ts ps i d e w h = subst (λ x. P (kept ts) (kept x)) (at_drop_more (�
 behind_all : (P : List Seen → List Seen → Type 0) (ts ps : List Token) (i : ℕ) → map seen ps ≡ kept ts → length ts ≤ i → P (map seen ps) (map seen (drop i ps)) → P (kept ts) []
 behind_all P ts ps i e w h = subst (λ x. P (kept ts) (kept x)) (drop_all i ts w) (moved P ts ps i e h)
 
-abbrev stops : List Seen → List Seen → Type 0
-stops all rest = StopsBefore all rest × Shallow all rest × ShallowAt all rest
-
-pub nested_at : (r : Lexed) (ps : List Token) (i : ℕ) (d : Token) → map seen ps ≡ kept r.list → i < length r.list → NestsBefore (map seen ps) (map seen (drop i ps)) →
+pub nested_at : (r : Lexed) (ps : List Token) (i : ℕ) (d : Token) → map seen ps ≡ kept r.list → i < length r.list → reader.NestsBefore (map seen ps) (map seen (drop i ps)) →
     IsRefused r (record { place = (slice_index_or r.list i d).place; rule = rule.Nesting })
-nested_at r ps i d e w h = nested (take i r.list) (slice_index_or r.list i d) (drop (i + 1) r.list) (split r.list i d w) (at_token NestsBefore r.list ps i d e w h)
+nested_at r ps i d e w h = nested (take i r.list) (slice_index_or r.list i d) (drop (i + 1) r.list) (split r.list i d w) (at_token NestsBefore r.list ps i d e w (depths.nests (map seen ps) (map seen (drop i ps)) h))
 
-pub stopped_at : (r : Lexed) (ps : List Token) (i : ℕ) (d : Token) → map seen ps ≡ kept r.list → i < length r.list → stops (map seen ps) (map seen (drop i ps)) →
+pub stopped_at : (r : Lexed) (ps : List Token) (i : ℕ) (d : Token) → map seen ps ≡ kept r.list → i < length r.list → found_stops (map seen ps) (map seen (drop i ps)) →
     IsRefused r (record { place = (slice_index_or r.list i d).place; rule = rule.Syntax })
-stopped_at r ps i d e w h = stopped (take i r.list) (slice_index_or r.list i d) (drop (i + 1) r.list) (split r.list i d w) (at_token stops r.list ps i d e w h)
+stopped_at r ps i d e w h = stopped (take i r.list) (slice_index_or r.list i d) (drop (i + 1) r.list) (split r.list i d w) (at_token stops_so r.list ps i d e w (depths.stops (map seen ps) (map seen (drop i ps)) h))
 
 begun : (ts : List Seen) → StopsBefore ts [] → Begins ts
 begun ts s = subst Begins (sym (s.parts ∙ nil_right s.used)) s.begins
 
-pub lexical_at : (r : Lexed) (ps : List Token) (i : ℕ) (f : Refusal) → map seen ps ≡ kept r.list → length r.list ≤ i → stops (map seen ps) (map seen (drop i ps)) → r.stop ≡ Some f → IsRefused r f
-lexical_at r ps i f e w h s = let g = behind_all stops r.list ps i e w h in lexical f s (begun (kept r.list) g.0) g.1
+pub lexical_at : (r : Lexed) (ps : List Token) (i : ℕ) (f : Refusal) → map seen ps ≡ kept r.list → length r.list ≤ i → found_stops (map seen ps) (map seen (drop i ps)) → r.stop ≡ Some f → IsRefused r f
+lexical_at r ps i f e w h s = let g = behind_all stops_so r.list ps i e w (depths.stops (map seen ps) (map seen (drop i ps)) h) in lexical f s (begun (kept r.list) g.0) g.1
 
-pub ended_at : (r : Lexed) (ps : List Token) (i : ℕ) → map seen ps ≡ kept r.list → length r.list ≤ i → stops (map seen ps) (map seen (drop i ps)) → r.stop ≡ None →
+pub ended_at : (r : Lexed) (ps : List Token) (i : ℕ) → map seen ps ≡ kept r.list → length r.list ≤ i → found_stops (map seen ps) (map seen (drop i ps)) → r.stop ≡ None →
     IsRefused r (record { place = last_place start r.list; rule = rule.Syntax })
-ended_at r ps i e w h s = ended s (behind_all stops r.list ps i e w h)
+ended_at r ps i e w h s = ended s (behind_all stops_so r.list ps i e w (depths.stops (map seen ps) (map seen (drop i ps)) h))
 
 pub ruleset places = (nested_at, stopped_at, lexical_at, ended_at, same_length)

@@ -4,7 +4,7 @@ use Rattle.l2_syntax.specs.declared.refusal.Refusal.{Refusal}
 use Rattle.l2_grammar.specs.Trees.{Seen, Tree}
 use Rattle.l2_grammar.specs.Law as grammar
 use Rattle.l2_grammar.specs.Law.{StopsBefore, NoFurther}
-use Rattle.l2_grammar.specs.Limits.{Shallow, NestsBefore, DeepAt}
+use Rattle.l2_parse_unit.specs.Depths.{Shallow, DeepAt}
 use Rattle.l2_lex.specs.Lexing.{Lexed}
 use Rattle.l2_tree.specs.Trees.{UnitTree}
 use Rattle.l2_tree.specs.Spelling.{run_unit}

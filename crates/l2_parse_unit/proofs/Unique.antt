@@ -4,7 +4,7 @@ use Rattle.l2_syntax.specs.declared.token.Name.{Name}
 use Rattle.l2_lex.specs.Lexing.{Lexed}
 use Rattle.l2_syntax.specs.declared.token.Token.{Token}
 use Rattle.l2_tree.specs.Trees.{ExternalTree, UnitTree}
-use Rattle.l2_tree.specs.Law.{UniqueTreeLaw}
+use Rattle.l2_tree_laws.specs.Law.{UniqueTreeLaw}
 use Rattle.l2_parse_unit.specs.Reading.{kept, Spells}
 
 abbrev first_bytes : List ℕ → List (List ℕ) → List ℕ

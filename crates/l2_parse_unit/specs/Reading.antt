@@ -11,10 +11,10 @@ use Rattle.l2_syntax.specs.declared.refusal.TextFault.TheVariants as fault
 use Rattle.l2_grammar.specs.Trees.{Seen}
 use Rattle.l2_grammar.specs.Law as grammar
 use Rattle.l2_grammar.specs.Law.{Begins, StopsBefore}
-use Rattle.l2_grammar.specs.Limits.{Shallow, ShallowAt, NestsBefore}
 use Rattle.l2_lex.specs.Lexing.{Lexed, tokens_of}
 use Rattle.l2_tree.specs.Trees.{UnitTree}
 use Rattle.l2_tree.specs.Spelling.{plain, run_unit}
+use Rattle.l2_parse_unit.specs.Depths.{Shallow, ShallowAt, NestsBefore}
 
 -- tokens as trees keep them
 abbrev pub kept : List Token → List Seen
@@ -83,3 +83,7 @@ UniqueUnitLaw = (r : Lexed) (u v : UnitTree) → Spells r u → Spells r v → u
 -- what is refused spells no unit
 abbrev pub RefusedLaw : Type 0
 RefusedLaw = (r : Lexed) (f : Refusal) (u : UnitTree) → IsRefused r f → Spells r u → ⊥
+
+-- no text is refused in two ways
+abbrev pub UniqueRefusalLaw : Type 0
+UniqueRefusalLaw = (r : Lexed) (f g : Refusal) → IsRefused r f → IsRefused r g → f ≡ g

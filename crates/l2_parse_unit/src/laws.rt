@@ -1,7 +1,7 @@
 // What holds of refusals: a law without code.
-ghost use Rattle.l2_parse_unit.specs.Reading.{RefusedLaw, UniqueUnitLaw};
+ghost use Rattle.l2_parse_unit.specs.Reading.{RefusedLaw, UniqueRefusalLaw, UniqueUnitLaw};
 
-use l2_tree::unique_tree_law;
+use l2_tree_laws::unique_tree_law;
 
 #[tactic(auto, using(crate::proofs::Refused::refused))]
 /// What is refused spells no unit.
@@ -16,3 +16,8 @@ pub fn unique_unit_law()
 {
     unique_tree_law();
 }
+
+/// No text is refused in two ways.
+pub fn unique_refusal_law()
+    ensures { UniqueRefusalLaw }
+{}

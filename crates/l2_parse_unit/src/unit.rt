@@ -1,20 +1,20 @@
 // The unit of a text.
 ghost use Rattle.std.specs.Prelude.{◌≡◌, None, map, [], IfOk, IfErr};
 ghost use Rattle.l2_grammar.specs.Law as grammar;
-ghost use Rattle.l2_grammar.specs.Limits.{Shallow};
+ghost use Rattle.l2_grammar.specs.Limits.{Shallow as NoneFoundDeep};
 ghost use Rattle.l2_lex.specs.Code.{lexed_of};
 ghost use Rattle.l2_reader.specs.Parts.{seen, tree_of};
 ghost use Rattle.l2_tree.specs.Units.{unit_tree};
 ghost use Rattle.l2_parse_unit.specs.Reading.{Spells, IsRefused, OnRefusal, kept as as_kept};
 
+use crate::built::externals;
 use crate::copies::{constants, kept, names};
 use crate::refusals::refusal;
 use l2_bits::List;
-use l2_forms::externals;
 use l2_reader::{Open, read};
 use l2_syntax::{TextFault, Token, Tokens};
-use l2_tree::{FormError, Unit};
-use std::alloc::Global;
+use l2_tree::Unit;
+use std::alloc::{AllocError, Global};
 
 /// The unit of a text that was read whole.
 #[tactic(auto, using(crate::proofs::Wholes::wholes))]
@@ -22,7 +22,7 @@ fn unit_of(alloc: Global, tokens: &Tokens, plain: &[Token], text: &Open) -> Resu
     requires unstopped { tokens.now.stop ≡ None }
     requires plain { map seen plain.now ≡ as_kept tokens.now.list }
     requires spelt { grammar.Spells (map seen plain.now) (tree_of text.now) }
-    requires shallow { Shallow (map seen plain.now) [] }
+    requires shallow { NoneFoundDeep (map seen plain.now) [] }
     ensures ok { IfOk result (λ u. Spells (lexed_of tokens.now) (unit_tree u)) }
     ensures err { IfErr result (λ e. e ≡ TextFault.NoMemory) }
 {
@@ -34,7 +34,7 @@ fn unit_of(alloc: Global, tokens: &Tokens, plain: &[Token], text: &Open) -> Resu
             constants: List::new(constants(alloc, list)?),
             names: List::new(names(alloc, tokens.names.as_slice())?),
         }),
-        Err(FormError::NoMemory) => Err(TextFault::NoMemory),
+        Err(AllocError) => Err(TextFault::NoMemory),
     }
 }
 

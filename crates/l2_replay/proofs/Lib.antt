@@ -1,3 +1,5 @@
 pub mod Loops
+pub mod Mains
+pub mod Results
 pub mod Steps
 pub mod Weights

@@ -1,5 +1,5 @@
 -- Where a `while` stands after some of its turns.
-use Rattle.std.proofs.Common.{◌≡◌, ℕ, suc, true, false, Bool, List, [], ◌+◌, ◌-◌, ◌<◌, ◌≤◌, Option, Some, None, sym, ap, ◌∙◌, arith}
+use Rattle.std.proofs.Common.{◌≡◌, ℕ, suc, true, false, Bool, [], ◌+◌, ◌-◌, ◌<◌, ◌≤◌, Option, Some, None, sym, ap, ◌∙◌, arith}
 use Rattle.l2_runs.specs.declared.outcome.Outcome.TheVariants.{OutOfTurns}
 use Rattle.l2_runs.specs.Runs.{State, End, Over, Result, Run, Go, Halt, on_go, and_then, done}
 use Rattle.l2_runs.specs.Loops.{Turn, or_events, tested, or_next, rounds, behind, spend, no_tests}

@@ -1,12 +1,11 @@
 -- What the interpreter's values and results stand for.
-use Rattle.std.specs.Prelude.{◌≡◌, true, Bool, if◌then◌else◌, List, [], ◌∷◌, Option, Some, None, Result, Ok, Err}
-use Rattle.l2_runs.specs.declared.cells.CellValue.{CellValue}
+use Rattle.std.specs.Prelude.{◌≡◌, Bool, if◌then◌else◌, [], ◌∷◌, Option, Some, None, Result, Ok, Err}
 use Rattle.l2_runs.specs.Fits.{Layout, StoreFits}
 use Rattle.l2_runs.specs.Runs as runs
 use Rattle.l2_runs.specs.Runs.{State, Run, Go, Halt}
 use Rattle.l2_runs.specs.Loops.{Real, no_tests}
 use Rattle.l2_program.specs.declared.program.Program.{Program}
-use Rattle.l2_program.specs.Checked.{TypedTree, CheckedTree, CheckedTrees}
+use Rattle.l2_program.specs.Checked.{CheckedTree, CheckedTrees}
 use Rattle.l2_program.specs.Programs.{program_tree}
 use Rattle.l2_meaning.specs.Meaning as meaning
 use Rattle.l2_meaning.specs.Execution.{cells_of, setting_of, Execution}

@@ -9,6 +9,7 @@ use Rattle.std.specs.declared.alloc.Global.{Global}
 use Rattle.l2_tree.specs.declared.expression.Expr as expr
 use Rattle.l2_tree.specs.declared.expression.Expr.{Expr}
 use Rattle.l2_tree.specs.declared.expression.Specifier.{Specifier}
+use Rattle.l2_tree.specs.declared.expression.Specifiers.{Specifiers}
 use Rattle.l2_tree.specs.declared.expression.Pointer.{Pointer}
 use Rattle.l2_tree.specs.declared.expression.Suffix.{Suffix}
 use Rattle.l2_tree.specs.declared.expression.Declarator as declarator
@@ -18,8 +19,8 @@ use Rattle.l2_tree.specs.declared.expression.Initialiser.{Initialiser}
 use Rattle.l2_tree.specs.declared.statement.Stmt as stmt
 use Rattle.l2_tree.specs.declared.statement.Stmt.{Stmt}
 use Rattle.l2_tree.specs.declared.statement.Branch.{Branch}
-use Rattle.l2_tree.specs.Trees.{ExprTree, ExprTrees, no_exprs, and_expr, SpecifierTree, SpecifierTrees, no_specifiers, and_specifier, DeclaratorTree, Declarator, CoreTree, Absent, Named, Group, SuffixTree, SuffixTrees, no_suffixes, and_suffix, DeclaredTree, DeclaredTrees, no_declarators, and_declarator, Declaration, no_stmts, BranchTree, BranchTrees, no_branches, and_branch}
-use Rattle.l2_tree.specs.Units.{expr_tree, exprs_onto, specifier_tree, specifiers_onto, suffix_tree, suffixes_onto, declared_tree, declarators_onto, declarator_tree, initialiser_tree, stmt_tree, stmts_onto, branch_tree, branches_onto}
+use Rattle.l2_tree.specs.Trees.{ExprTree, ExprTrees, no_exprs, and_expr, SpecifierTree, SpecifierTrees, first_specifier, and_specifier, DeclaratorTree, Declarator, CoreTree, Absent, Named, Group, SuffixTree, SuffixTrees, no_suffixes, and_suffix, DeclaredTree, DeclaredTrees, no_declarators, and_declarator, Declaration, no_stmts, BranchTree, BranchTrees, first_branch, and_branch}
+use Rattle.l2_tree.specs.Units.{expr_tree, exprs_onto, specifier_tree, specifiers_onto, specifiers_tree, suffix_tree, suffixes_onto, declared_tree, declarators_onto, declarator_tree, initialiser_tree, stmt_tree, stmts_onto, branch_tree, branches_onto, branches_tree}
 use Rattle.l2_tree.proofs.Expressions.{expr_tree-Call}
 use Rattle.l2_tree.proofs.Statements.{stmt_tree-Block, stmt_tree-If, stmt_tree-IfElse}
 use Rattle.l2_tree.proofs.Declarations.{core_tree-Group, declared_tree-Plain, declared_tree-Initialised}
@@ -53,19 +54,17 @@ pub ruleset calls = (small_expr-Call)
 
 -- ---- specifiers
 
-alone_later : (xs : SpecifierTrees) (x y : SpecifierTree) (more : List Specifier) → word_alone (specifiers_onto (and_specifier (and_specifier xs x) y) more) ≡ None
-alone_later xs x y [] = refl
-alone_later xs x y (z ∷ more) = alone_later (and_specifier xs x) y (specifier_tree z) more
+alone_later : (xs : SpecifierTrees) (x : SpecifierTree) (more : List Specifier) → word_alone (specifiers_onto (and_specifier xs x) more) ≡ None
+alone_later xs x [] = refl
+alone_later xs x (z ∷ more) = alone_later (and_specifier xs x) (specifier_tree z) more
 
-pub word_alone-one : (xs : List Specifier) (x : Specifier) → length xs ≡ 1 → x ≡ get_or xs 0 x → word_alone (specifiers_onto no_specifiers xs) ≡ word_alone (and_specifier no_specifiers (specifier_tree x))
-word_alone-one [] x h e = absurd (omega arith)
-word_alone-one (y ∷ []) x h e = ap (λ z. word_alone (and_specifier no_specifiers (specifier_tree z))) (sym e)
-word_alone-one (y ∷ z ∷ more) x h e = absurd (omega arith)
+pub word_alone-one : (x : SpecifierTree) (xs : List Specifier) → length xs ≡ 0 → word_alone (specifiers_onto (first_specifier x) xs) ≡ word_alone (first_specifier x)
+word_alone-one x [] h = refl
+word_alone-one x (y ∷ more) h = absurd (omega arith)
 
-pub word_alone-other : (xs : List Specifier) → length xs ≢ 1 → word_alone (specifiers_onto no_specifiers xs) ≡ None
-word_alone-other [] h = refl
-word_alone-other (y ∷ []) h = absurd (h refl)
-word_alone-other (y ∷ z ∷ more) h = alone_later no_specifiers (specifier_tree y) (specifier_tree z) more
+pub word_alone-other : (x : SpecifierTree) (xs : List Specifier) → length xs ≢ 0 → word_alone (specifiers_onto (first_specifier x) xs) ≡ None
+word_alone-other x [] h = absurd (h refl)
+word_alone-other x (y ∷ more) h = alone_later (first_specifier x) (specifier_tree y) more
 
 pub ruleset specifiers = (word_alone-one, word_alone-other)
 
@@ -154,31 +153,29 @@ pub ruleset effects = (small_effect-Call)
 
 -- ---- branches and blocks
 
-pub small_stmt-If : (names : List NameText) (s : Stmt) (bs : Vec Branch Global) →
-    s ≡ stmt.If bs → small_stmt names (stmt_tree s) ≡ option_map (λ b. small.If b.test b.body) (small_branch names (branches_onto no_branches bs.items))
-small_stmt-If names s bs h = ap (λ x. small_stmt names (stmt_tree x)) h ∙ ap (small_stmt names) (stmt_tree-If bs)
+pub small_stmt-If : (names : List NameText) (s : Stmt) (a : Branch) (bs : Vec Branch Global) →
+    s ≡ stmt.If a bs → small_stmt names (stmt_tree s) ≡ option_map (λ b. small.If b.test b.body) (small_branch names (branches_tree a bs.items))
+small_stmt-If names s a bs h = ap (λ x. small_stmt names (stmt_tree x)) h ∙ ap (small_stmt names) (stmt_tree-If a bs)
 
-pub small_stmt-IfElse : (names : List NameText) (s : Stmt) (bs : Vec Branch Global) (t : Box Stmt Global) →
-    s ≡ stmt.IfElse bs t →
-    small_stmt names (stmt_tree s) ≡ and_then (small_branch names (branches_onto no_branches bs.items)) (λ b. option_map (small.IfElse b.test b.body) (small_block names (stmt_tree t.value)))
-small_stmt-IfElse names s bs t h = ap (λ x. small_stmt names (stmt_tree x)) h ∙ ap (small_stmt names) (stmt_tree-IfElse bs t)
+pub small_stmt-IfElse : (names : List NameText) (s : Stmt) (a : Branch) (bs : Vec Branch Global) (t : Box Stmt Global) →
+    s ≡ stmt.IfElse a bs t →
+    small_stmt names (stmt_tree s) ≡ and_then (small_branch names (branches_tree a bs.items)) (λ b. option_map (small.IfElse b.test b.body) (small_block names (stmt_tree t.value)))
+small_stmt-IfElse names s a bs t h = ap (λ x. small_stmt names (stmt_tree x)) h ∙ ap (small_stmt names) (stmt_tree-IfElse a bs t)
 
 pub ruleset ifs = (small_stmt-If, small_stmt-IfElse)
 
-branch_later : (names : List NameText) (bs : BranchTrees) (a b : BranchTree) (all : List Branch) → small_branch names (branches_onto (and_branch (and_branch bs a) b) all) ≡ None
-branch_later names bs a b [] = refl
-branch_later names bs a b (x ∷ all) = branch_later names (and_branch bs a) b (branch_tree x) all
+branch_later : (names : List NameText) (bs : BranchTrees) (a : BranchTree) (all : List Branch) → small_branch names (branches_onto (and_branch bs a) all) ≡ None
+branch_later names bs a [] = refl
+branch_later names bs a (x ∷ all) = branch_later names (and_branch bs a) (branch_tree x) all
 
-pub small_branch-one : (names : List NameText) (all : List Branch) (b : Branch) → length all ≡ 1 → b ≡ get_or all 0 b →
-    small_branch names (branches_onto no_branches all) ≡ and_then (small_expr names (expr_tree b.condition)) (λ x. option_map (branch_with x) (small_block names (stmt_tree b.body)))
-small_branch-one names [] b h e = absurd (omega arith)
-small_branch-one names (y ∷ []) b h e = ap (λ z. small_branch names (and_branch no_branches (branch_tree z))) (sym e)
-small_branch-one names (y ∷ z ∷ more) b h e = absurd (omega arith)
+pub small_branch-one : (names : List NameText) (b : Branch) (others : List Branch) → length others ≡ 0 →
+    small_branch names (branches_tree b others) ≡ and_then (small_expr names (expr_tree b.condition.value)) (λ x. option_map (branch_with x) (small_block names (stmt_tree b.body.value)))
+small_branch-one names b [] h = refl
+small_branch-one names b (x ∷ others) h = absurd (omega arith)
 
-pub small_branch-other : (names : List NameText) (all : List Branch) → length all ≢ 1 → small_branch names (branches_onto no_branches all) ≡ None
-small_branch-other names [] h = refl
-small_branch-other names (y ∷ []) h = absurd (h refl)
-small_branch-other names (y ∷ z ∷ more) h = branch_later names no_branches (branch_tree y) (branch_tree z) more
+pub small_branch-other : (names : List NameText) (b : Branch) (others : List Branch) → length others ≢ 0 → small_branch names (branches_tree b others) ≡ None
+small_branch-other names b [] h = absurd (h refl)
+small_branch-other names b (x ∷ others) h = branch_later names (first_branch (branch_tree b)) (branch_tree x) others
 
 pub ruleset branches = (small_branch-one, small_branch-other)
 

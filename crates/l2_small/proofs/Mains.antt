@@ -5,7 +5,7 @@ use Rattle.std.specs.declared.vec.Vec.{Vec}
 use Rattle.std.specs.declared.alloc.Global.{Global}
 use Rattle.l2_syntax.specs.declared.place.Place.{Place}
 use Rattle.l2_syntax.specs.declared.token.Name.{Name as NameText}
-use Rattle.l2_tree.specs.declared.expression.Specifier.{Specifier}
+use Rattle.l2_tree.specs.declared.expression.Specifiers.{Specifiers}
 use Rattle.l2_tree.specs.declared.expression.Parameter as parameter
 use Rattle.l2_tree.specs.declared.expression.Parameter.{Parameter}
 use Rattle.l2_tree.specs.declared.expression.Declarator as declarator
@@ -13,19 +13,19 @@ use Rattle.l2_tree.specs.declared.expression.Pointer.{Pointer}
 use Rattle.l2_tree.specs.declared.expression.Suffix as suffix
 use Rattle.l2_tree.specs.declared.expression.Suffix.{Suffix}
 use Rattle.l2_tree.specs.declared.unit.External.{External}
-use Rattle.l2_tree.specs.Trees.{no_specifiers, ParameterTree, ParameterTrees, no_parameters, and_parameter, DeclaratorTree, Declarator, CoreTree, Absent, Named, Group, SuffixTree, SuffixTrees, no_suffixes, and_suffix}
-use Rattle.l2_tree.specs.Units.{specifiers_onto, parameter_tree, parameters_onto, suffix_tree, suffixes_onto, external_tree}
+use Rattle.l2_tree.specs.Trees.{ParameterTree, ParameterTrees, no_parameters, and_parameter, DeclaratorTree, Declarator, CoreTree, Absent, Named, Group, SuffixTree, SuffixTrees, no_suffixes, and_suffix}
+use Rattle.l2_tree.specs.Units.{specifiers_tree, parameter_tree, parameters_onto, suffix_tree, suffixes_onto, external_tree}
 use Rattle.l2_tree.proofs.Declarations.{core_tree-Group, suffix_tree-Parameters, parameter_tree-Plain, parameter_tree-Declared}
 use Rattle.l2_small.specs.Words.{is_main}
 use Rattle.l2_small.specs.SmallForm.{word_alone, is_void, is_nothing, takes_nothing, main_place, small_external, small_externals}
 
 -- ---- parameters
 
-pub is_nothing-Plain : (x : Parameter) (xs : Vec Specifier Global) → x ≡ parameter.Plain xs →
-    is_nothing (and_parameter no_parameters (parameter_tree x)) ≡ is_void (word_alone (specifiers_onto no_specifiers xs.items))
+pub is_nothing-Plain : (x : Parameter) (xs : Specifiers) → x ≡ parameter.Plain xs →
+    is_nothing (and_parameter no_parameters (parameter_tree x)) ≡ is_void (word_alone (specifiers_tree xs))
 is_nothing-Plain x xs h = ap (λ z. is_nothing (and_parameter no_parameters (parameter_tree z))) h ∙ ap (λ z. is_nothing (and_parameter no_parameters z)) (parameter_tree-Plain xs)
 
-pub is_nothing-Declared : (x : Parameter) (xs : Vec Specifier Global) (d : declarator.Declarator) → x ≡ parameter.Declared xs d → is_nothing (and_parameter no_parameters (parameter_tree x)) ≡ false
+pub is_nothing-Declared : (x : Parameter) (xs : Specifiers) (d : declarator.Declarator) → x ≡ parameter.Declared xs d → is_nothing (and_parameter no_parameters (parameter_tree x)) ≡ false
 is_nothing-Declared x xs d h = ap (λ z. is_nothing (and_parameter no_parameters (parameter_tree z))) h ∙ ap (λ z. is_nothing (and_parameter no_parameters z)) (parameter_tree-Declared xs d)
 
 parameter_later : (ps : ParameterTrees) (a b : ParameterTree) (all : List Parameter) → is_nothing (parameters_onto (and_parameter (and_parameter ps a) b) all) ≡ false

@@ -18,7 +18,7 @@ use Rattle.l2_tree.specs.declared.operators.AssignmentOperator.TheVariants as as
 use Rattle.l2_tree.specs.declared.operators.SpecifierWord.{SpecifierWord}
 use Rattle.l2_tree.specs.declared.operators.SpecifierWord.TheVariants as word
 use Rattle.l2_tree.specs.Trees as specifier
-use Rattle.l2_tree.specs.Trees.{ExprTree, Name, Number, Parenthesised, Unary, Binary, Call, Assign, ExprTrees, no_exprs, and_expr, SpecifierTrees, no_specifiers, and_specifier, ParameterTrees, Bare, no_parameters, and_parameter, DeclaratorTree, Declarator, Named, SuffixTrees, Parameters, no_suffixes, and_suffix, InitialiserTree, Expression, DeclaredTree, Uninitialised, Initialised, DeclaredTrees, no_declarators, and_declarator, DeclarationTree, Declaration, StmtTree, Declare, Block, Evaluate, If, IfElse, While, ReturnValue, StmtTrees, no_stmts, and_stmt, BranchTrees, Branch, no_branches, and_branch, ExternalTree, Function, UnitTree}
+use Rattle.l2_tree.specs.Trees.{ExprTree, Name, Number, Parenthesised, Unary, Binary, Call, Assign, ExprTrees, no_exprs, and_expr, SpecifierTrees, first_specifier, ParameterTrees, Bare, no_parameters, and_parameter, DeclaratorTree, Declarator, Named, SuffixTrees, Parameters, no_suffixes, and_suffix, InitialiserTree, Expression, DeclaredTree, Uninitialised, Initialised, DeclaredTrees, no_declarators, and_declarator, DeclarationTree, Declaration, StmtTree, Declare, Block, Evaluate, If, IfElse, While, ReturnValue, StmtTrees, no_stmts, and_stmt, BranchTrees, Branch, first_branch, ExternalTree, Function, UnitTree}
 use Rattle.l2_small.specs.SmallTrees as small
 use Rattle.l2_small.specs.SmallTrees.{SmallExprTree, SmallStmtTree, SmallStmtTrees, SmallUnitTree}
 use Rattle.l2_small.specs.declared.words.Word.{Word}
@@ -75,7 +75,7 @@ small_expr names e = None
 
 -- the word that specifiers are, if they are one word alone
 abbrev pub word_alone : SpecifierTrees → Option SpecifierWord
-word_alone (and_specifier no_specifiers (specifier.Word w p)) = Some w
+word_alone (first_specifier (specifier.Word w p)) = Some w
 word_alone xs = None
 
 abbrev pub is_int : Option SpecifierWord → Bool
@@ -152,7 +152,7 @@ abbrev mutual
 
   -- `if ( e ) block`, and no `else if` behind it
   pub small_branch : List NameText → BranchTrees → Option SmallBranchTree
-  small_branch names (and_branch no_branches (Branch p q e s)) = and_then (small_expr names e) (λ x. option_map (branch_with x) (small_block names s))
+  small_branch names (first_branch (Branch p q e s)) = and_then (small_expr names e) (λ x. option_map (branch_with x) (small_block names s))
   small_branch names bs = None
 
   -- `{ items }`

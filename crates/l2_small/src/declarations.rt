@@ -1,7 +1,7 @@
 // Declarations.
 ghost use Rattle.std.specs.Prelude.{◌≡◌, Some, None, IfOk, IsErrOf};
-ghost use Rattle.l2_tree.specs.Trees.{no_specifiers, and_specifier};
-ghost use Rattle.l2_tree.specs.Units.{specifier_tree, specifiers_onto, initialiser_tree, declared_tree, declarator_tree, declaration_tree};
+ghost use Rattle.l2_tree.specs.Trees.{first_specifier};
+ghost use Rattle.l2_tree.specs.Units.{specifier_tree, specifiers_tree, initialiser_tree, declared_tree, declarator_tree, declaration_tree};
 ghost use Rattle.l2_small.specs.SmallTrees.{small_stmt_tree};
 ghost use Rattle.l2_small.specs.SmallForm.{word_alone, is_int, is_void, name_alone, small_declare, small_initialise, small_declared, small_declaration};
 
@@ -10,12 +10,14 @@ use crate::expressions::small_expr;
 use crate::tree::SmallStmt;
 use crate::words::{Word, is_variable};
 use l2_syntax::Name;
-use l2_tree::{Core, Declaration, Declarator, Declared, Initialiser, Specifier, SpecifierWord};
+use l2_tree::{
+    Core, Declaration, Declarator, Declared, Initialiser, Specifier, SpecifierWord, Specifiers,
+};
 use std::alloc::Global;
 
 /// The word that a specifier is.
 fn word_of(x: &Specifier) -> Option<SpecifierWord>
-    ensures { result ≡ word_alone (and_specifier no_specifiers (specifier_tree x.now)) }
+    ensures { result ≡ word_alone (first_specifier (specifier_tree x.now)) }
 {
     match x {
         Specifier::Word(word, _) => Some(*word),
@@ -29,12 +31,13 @@ fn word_of(x: &Specifier) -> Option<SpecifierWord>
 
 /// The word that specifiers are, if they are one word alone.
 #[tactic(auto, using(crate::proofs::Lists::specifiers))]
-pub fn word_alone(all: &[Specifier]) -> Option<SpecifierWord>
-    ensures { result ≡ word_alone (specifiers_onto no_specifiers all.now) }
+pub fn word_alone(all: &Specifiers) -> Option<SpecifierWord>
+    ensures { result ≡ word_alone (specifiers_tree all.now) }
 {
-    match all {
-        [only] => word_of(only),
-        _ => None,
+    if all.rest.is_empty() {
+        word_of(&all.first)
+    } else {
+        None
     }
 }
 

@@ -1,7 +1,7 @@
 // Statements.
 ghost use Rattle.std.specs.Prelude.{◌≡◌, Some, None, IfOk, IsErrOf};
-ghost use Rattle.l2_tree.specs.Trees.{no_exprs, and_expr, no_stmts, no_branches};
-ghost use Rattle.l2_tree.specs.Units.{expr_tree, exprs_onto, stmt_tree, stmts_onto, branches_onto};
+ghost use Rattle.l2_tree.specs.Trees.{no_exprs, and_expr, no_stmts};
+ghost use Rattle.l2_tree.specs.Units.{expr_tree, exprs_onto, stmt_tree, stmts_onto, branches_tree};
 ghost use Rattle.l2_small.specs.SmallTrees.{none, small_expr_tree, small_stmt_tree, small_stmts_onto};
 ghost use Rattle.l2_small.specs.SmallForm.{is_plain, small_assign, small_assert, small_effect, small_stmt, branch_with, small_branch, small_block, small_stmts};
 
@@ -146,12 +146,12 @@ fn statement(alloc: Global, names: &[Name], s: &Stmt) -> Result<SmallStmt, Small
     match s {
         Stmt::Declaration(d) => declaration(alloc, names, d),
         Stmt::Expression(e) => effect(alloc, names, e),
-        Stmt::If(branches) => {
-            let first = branch(alloc, names, branches)?;
+        Stmt::If(only, others) => {
+            let first = branch(alloc, names, only, others)?;
             if_then(alloc, first.test, first.body)
         }
-        Stmt::IfElse(branches, other) => {
-            let first = branch(alloc, names, branches)?;
+        Stmt::IfElse(only, others, other) => {
+            let first = branch(alloc, names, only, others)?;
             let last = block(alloc, names, other)?;
             if_else(alloc, first.test, first.body, last)
         }
@@ -181,17 +181,21 @@ fn statement(alloc: Global, names: &[Name], s: &Stmt) -> Result<SmallStmt, Small
 /// `if (e) { .. }`, and no `else if` behind it.
 #[cycle(statements)]
 #[tactic(auto, using(crate::proofs::Steps::steps, crate::proofs::Lists::branches))]
-fn branch(alloc: Global, names: &[Name], all: &[Branch]) -> Result<SmallBranch, SmallError>
-    ensures ok { IfOk result (λ r. small_branch names.now (branches_onto no_branches all.now) ≡ Some (branch_with (small_expr_tree r.test) (small_stmt_tree r.body))) }
-    ensures not_small { IsErrOf result SmallError.NotSmall → small_branch names.now (branches_onto no_branches all.now) ≡ None }
+fn branch(
+    alloc: Global,
+    names: &[Name],
+    only: &Branch,
+    others: &[Branch],
+) -> Result<SmallBranch, SmallError>
+    ensures ok { IfOk result (λ r. small_branch names.now (branches_tree only.now others.now) ≡ Some (branch_with (small_expr_tree r.test) (small_stmt_tree r.body))) }
+    ensures not_small { IsErrOf result SmallError.NotSmall → small_branch names.now (branches_tree only.now others.now) ≡ None }
 {
-    match all {
-        [only] => {
-            let test = small_expr(alloc, names, &only.condition)?;
-            let body = block(alloc, names, &only.body)?;
-            Ok(SmallBranch { test, body })
-        }
-        _ => Err(SmallError::NotSmall),
+    if others.is_empty() {
+        let test = small_expr(alloc, names, &only.condition)?;
+        let body = block(alloc, names, &only.body)?;
+        Ok(SmallBranch { test, body })
+    } else {
+        Err(SmallError::NotSmall)
     }
 }
 

@@ -14,6 +14,9 @@ use Rattle.l2_tree.specs.declared.expression.Parameter as parameter
 use Rattle.l2_tree.specs.declared.expression.Parameter.{Parameter, Row_of-Specifier, end_of-Specifier, more_of-Specifier, items-the_row-Specifier, items_hidden-the_row-Specifier-3, items_shown-the_row-Specifier-3, Row_of-Suffix, end_of-Suffix, more_of-Suffix, items-the_row-Suffix, items_hidden-the_row-Suffix-0}
 use Rattle.l2_tree.specs.declared.expression.Specifier as specifier
 use Rattle.l2_tree.specs.declared.expression.Specifier.{Specifier, Row_of-Declaration, end_of-Declaration, more_of-Declaration, items-the_row-Declaration, items_hidden-the_row-Declaration-5, Row_of-Enumerator, end_of-Enumerator, more_of-Enumerator, items-the_row-Enumerator, items_hidden-the_row-Enumerator-6}
+use Rattle.l2_tree.specs.declared.expression.Specifiers.{Specifiers}
+use Rattle.l2_tree.specs.declared.expression.Enumerators.{Enumerators}
+use Rattle.l2_tree.specs.declared.expression.Initialisers.{Initialisers}
 use Rattle.l2_tree.specs.declared.expression.Enumerator.{Enumerator}
 use Rattle.l2_tree.specs.declared.expression.Initialiser as initialiser
 use Rattle.l2_tree.specs.declared.expression.Initialiser.{Initialiser, Row_of-Initialiser, end_of-Initialiser, more_of-Initialiser, items-the_row-Initialiser, items_hidden-the_row-Initialiser-2}
@@ -23,8 +26,8 @@ use Rattle.l2_tree.specs.declared.expression.Declared.{Declared}
 use Rattle.l2_tree.specs.declared.expression.Declaration.{Declaration, Row_of-Declared, end_of-Declared, more_of-Declared, items-the_row-Declared, items_shown-the_row-Declared-4}
 use Rattle.l2_tree.specs.declared.statement.Stmt.{Stmt}
 use Rattle.l2_tree.specs.Trees as tree
-use Rattle.l2_tree.specs.Trees.{SpecifierTrees, no_specifiers, and_specifier, EnumeratorTrees, no_enumerators, and_enumerator, ParameterTrees, no_parameters, and_parameter, SuffixTrees, no_suffixes, and_suffix, InitialiserTrees, no_initialisers, and_initialiser, DeclaredTrees, no_declarators, and_declarator, DeclarationTrees, no_declarations, and_declaration, StmtTrees, and_stmt}
-use Rattle.l2_tree.specs.Units.{specifier_tree, specifiers_row, specifiers_onto, enumerator_tree, enumerators_row, enumerators_onto, parameter_tree, parameters_row, parameters_onto, core_tree, suffix_tree, suffixes_row, suffixes_onto, initialiser_tree, initialisers_row, initialisers_onto, declared_tree, declared_row, declarators_onto, declarator_tree, declaration_tree, declarations_row, declarations_onto, stmt_tree, stmts_onto}
+use Rattle.l2_tree.specs.Trees.{SpecifierTrees, first_specifier, and_specifier, EnumeratorTrees, first_enumerator, and_enumerator, ParameterTrees, no_parameters, and_parameter, SuffixTrees, no_suffixes, and_suffix, InitialiserTrees, first_initialiser, and_initialiser, DeclaredTrees, no_declarators, and_declarator, DeclarationTrees, no_declarations, and_declaration, StmtTrees, and_stmt}
+use Rattle.l2_tree.specs.Units.{specifier_tree, specifiers_row, specifiers_onto, specifiers_tree, enumerator_tree, enumerators_row, enumerators_onto, enumerators_tree, parameter_tree, parameters_row, parameters_onto, core_tree, suffix_tree, suffixes_row, suffixes_onto, initialiser_tree, initialisers_row, initialisers_onto, initialisers_tree, declared_tree, declared_row, declarators_onto, declarator_tree, declaration_tree, declarations_row, declarations_onto, stmt_tree, stmts_onto}
 use Rattle.l2_grammar.specs.Trees.{Tree}
 use Rattle.l2_tree.specs.Spelling.{pointer_onto, pointers_onto}
 
@@ -94,19 +97,19 @@ declarators_row_is front (more_of-Declared x rest) = declarators_row_is (and_dec
 
 declarations_row_is : {m : _} (front : DeclarationTrees) (row : Row_of-Declaration m) → declarations_row front row ≡ declarations_onto front (items-the_row-Declaration m row)
 declarations_row_is front end_of-Declaration = refl
-declarations_row_is front (more_of-Declaration {n = n} shape xs shape2 all rest) =
-    declarations_row_is (and_declaration front (tree.Declaration (specifiers_row no_specifiers xs) (declared_row no_declarators all))) rest
+declarations_row_is front (more_of-Declaration {n = n} a x shape xs shape2 all rest) =
+    declarations_row_is (and_declaration front (tree.Declaration (specifiers_row (first_specifier (specifier_tree x)) xs) (declared_row no_declarators all))) rest
     ∙ ap (λ z. declarations_onto (and_declaration front z) (items-the_row-Declaration n rest))
-    (ap (λ z. tree.Declaration z (declared_row no_declarators all)) (specifiers_row_is no_specifiers xs ∙ ap (specifiers_onto no_specifiers) (sym (items_shown-the_row-Specifier-3 shape xs)))
-    ∙ ap (tree.Declaration (specifiers_onto no_specifiers (block.shown-the_row-Specifier-3 shape xs).items)) (declarators_row_is no_declarators all ∙ ap (declarators_onto no_declarators) (sym (items_shown-the_row-Declared-4 shape2 all))))
+    (ap (λ z. tree.Declaration z (declared_row no_declarators all)) (specifiers_row_is (first_specifier (specifier_tree x)) xs ∙ ap (specifiers_onto (first_specifier (specifier_tree x))) (sym (items_shown-the_row-Specifier-3 shape xs)))
+    ∙ ap (tree.Declaration (specifiers_onto (first_specifier (specifier_tree x)) (block.shown-the_row-Specifier-3 shape xs).items)) (declarators_row_is no_declarators all ∙ ap (declarators_onto no_declarators) (sym (items_shown-the_row-Declared-4 shape2 all))))
 
 -- ---- vectors in them
 
 suffixes_are : (xs : Vec Suffix Global) → suffixes_row no_suffixes (block.hidden-the_row-Suffix-0 xs) ≡ suffixes_onto no_suffixes xs.items
 suffixes_are xs = suffixes_row_is no_suffixes (block.hidden-the_row-Suffix-0 xs) ∙ ap (suffixes_onto no_suffixes) (items_hidden-the_row-Suffix-0 xs)
 
-specifiers_are : (xs : Vec Specifier Global) → specifiers_row no_specifiers (block.hidden-the_row-Specifier-3 xs) ≡ specifiers_onto no_specifiers xs.items
-specifiers_are xs = specifiers_row_is no_specifiers (block.hidden-the_row-Specifier-3 xs) ∙ ap (specifiers_onto no_specifiers) (items_hidden-the_row-Specifier-3 xs)
+specifiers_are : (xs : Specifiers) → specifiers_row (first_specifier (specifier_tree xs.first.value)) (block.hidden-the_row-Specifier-3 xs.rest) ≡ specifiers_tree xs
+specifiers_are xs = specifiers_row_is (first_specifier (specifier_tree xs.first.value)) (block.hidden-the_row-Specifier-3 xs.rest) ∙ ap (specifiers_onto (first_specifier (specifier_tree xs.first.value))) (items_hidden-the_row-Specifier-3 xs.rest)
 
 inside_is : (d : Declarator) → tree.Declarator d.pointers.items (core_tree d.core) (suffixes_row no_suffixes (block.hidden-the_row-Suffix-0 d.suffixes)) ≡ declarator_tree d
 inside_is d = ap (tree.Declarator d.pointers.items (core_tree d.core)) (suffixes_are d.suffixes)
@@ -117,16 +120,17 @@ suffix_tree-Parameters p ps = ap (tree.Parameters p) (parameters_row_is no_param
 pub core_tree-Group : (p : Place) (b : Box Declarator Global) → core_tree (core.Group p b) ≡ tree.Group p (declarator_tree b.value)
 core_tree-Group p b = ap (tree.Group p) (inside_is b.value)
 
-pub parameter_tree-Plain : (xs : Vec Specifier Global) → parameter_tree (parameter.Plain xs) ≡ tree.Bare (specifiers_onto no_specifiers xs.items)
+pub parameter_tree-Plain : (xs : Specifiers) → parameter_tree (parameter.Plain xs) ≡ tree.Bare (specifiers_tree xs)
 parameter_tree-Plain xs = ap tree.Bare (specifiers_are xs)
 
-pub parameter_tree-Declared : (xs : Vec Specifier Global) (d : Declarator) → parameter_tree (parameter.Declared xs d) ≡ tree.Declared (specifiers_onto no_specifiers xs.items) (declarator_tree d)
+pub parameter_tree-Declared : (xs : Specifiers) (d : Declarator) → parameter_tree (parameter.Declared xs d) ≡ tree.Declared (specifiers_tree xs) (declarator_tree d)
 parameter_tree-Declared xs d =
     ap (λ z. tree.Declared z (tree.Declarator d.pointers.items (core_tree d.core) (suffixes_row no_suffixes (block.hidden-the_row-Suffix-0 d.suffixes)))) (specifiers_are xs)
-    ∙ ap (tree.Declared (specifiers_onto no_specifiers xs.items)) (inside_is d)
+    ∙ ap (tree.Declared (specifiers_tree xs)) (inside_is d)
 
-pub initialiser_tree-Braced : (p : Place) (is : Vec Initialiser Global) (b : Bool) → initialiser_tree (initialiser.Braced p is b) ≡ tree.Braced p (initialisers_onto no_initialisers is.items) b
-initialiser_tree-Braced p is b = ap (λ z. tree.Braced p z b) (initialisers_row_is no_initialisers (block.hidden-the_row-Initialiser-2 is) ∙ ap (initialisers_onto no_initialisers) (items_hidden-the_row-Initialiser-2 is))
+pub initialiser_tree-Braced : (p : Place) (ns : Initialisers) (b : Bool) → initialiser_tree (initialiser.Braced p ns b) ≡ tree.Braced p (initialisers_tree ns) b
+initialiser_tree-Braced p ns b = ap (λ z. tree.Braced p z b) (initialisers_row_is (first_initialiser (initialiser_tree ns.first.value)) (block.hidden-the_row-Initialiser-2 ns.rest)
+    ∙ ap (initialisers_onto (first_initialiser (initialiser_tree ns.first.value))) (items_hidden-the_row-Initialiser-2 ns.rest))
 
 pub declared_tree-Plain : (d : Declarator) → declared_tree (declared.Plain d) ≡ tree.Uninitialised (declarator_tree d)
 declared_tree-Plain d = ap tree.Uninitialised (inside_is d)
@@ -137,8 +141,9 @@ declared_tree-Initialised d p i = ap (λ z. tree.Initialised z p (initialiser_tr
 pub specifier_tree-StructBody : (p : Place) (t : Option Tag) (q : Place) (ds : Vec Declaration Global) → specifier_tree (specifier.StructBody p t q ds) ≡ tree.StructBody p t q (declarations_onto no_declarations ds.items)
 specifier_tree-StructBody p t q ds = ap (tree.StructBody p t q) (declarations_row_is no_declarations (block.hidden-the_row-Declaration-5 ds) ∙ ap (declarations_onto no_declarations) (items_hidden-the_row-Declaration-5 ds))
 
-pub specifier_tree-EnumBody : (p : Place) (t : Option Tag) (q : Place) (es : Vec Enumerator Global) (b : Bool) → specifier_tree (specifier.EnumBody p t q es b) ≡ tree.EnumBody p t q (enumerators_onto no_enumerators es.items) b
-specifier_tree-EnumBody p t q es b = ap (λ z. tree.EnumBody p t q z b) (enumerators_row_is no_enumerators (block.hidden-the_row-Enumerator-6 es) ∙ ap (enumerators_onto no_enumerators) (items_hidden-the_row-Enumerator-6 es))
+pub specifier_tree-EnumBody : (p : Place) (t : Option Tag) (q : Place) (es : Enumerators) (b : Bool) → specifier_tree (specifier.EnumBody p t q es b) ≡ tree.EnumBody p t q (enumerators_tree es) b
+specifier_tree-EnumBody p t q es b = ap (λ z. tree.EnumBody p t q z b) (enumerators_row_is (first_enumerator (enumerator_tree es.first.value)) (block.hidden-the_row-Enumerator-6 es.rest)
+    ∙ ap (enumerators_onto (first_enumerator (enumerator_tree es.first.value))) (items_hidden-the_row-Enumerator-6 es.rest))
 
 pub ruleset declarators = (pointers-end, parameters-end, suffixes-end, suffix_tree-Parameters, core_tree-Group)
 

@@ -8,8 +8,8 @@ use Rattle.l2_tree.specs.declared.statement.Stmt as stmt
 use Rattle.l2_tree.specs.declared.statement.Stmt.{Stmt, Row_of-Stmt, end_of-Stmt, more_of-Stmt, items-the_row-Stmt, items_hidden-the_row-Stmt-0, Row_of-Branch, end_of-Branch, more_of-Branch, items-the_row-Branch, items_hidden-the_row-Branch-1}
 use Rattle.l2_tree.specs.declared.statement.Stmt.TheBlock as all
 use Rattle.l2_tree.specs.declared.statement.Branch.{Branch}
-use Rattle.l2_tree.specs.Trees.{StmtTrees, no_stmts, and_stmt, BranchTrees, no_branches, and_branch, Block, If, IfElse}
-use Rattle.l2_tree.specs.Units.{stmt_tree, stmts_row, branches_row, stmts_onto, branch_tree, branches_onto}
+use Rattle.l2_tree.specs.Trees.{StmtTrees, no_stmts, and_stmt, BranchTrees, Branch as a_branch, first_branch, and_branch, Block, If, IfElse}
+use Rattle.l2_tree.specs.Units.{expr_tree, stmt_tree, stmts_row, branches_row, stmts_onto, branch_tree, branches_onto, branches_tree}
 
 pub stmts_onto-end : (ss : StmtTrees) (xs : List Stmt) (x : Stmt) → stmts_onto ss (xs ++ (x ∷ [])) ≡ and_stmt (stmts_onto ss xs) (stmt_tree x)
 stmts_onto-end ss [] x = refl
@@ -25,18 +25,18 @@ stmts_row_is ss (more_of-Stmt x rest) = stmts_row_is (and_stmt ss (stmt_tree x))
 
 branches_row_is : {m : _} (bs : BranchTrees) (row : Row_of-Branch m) → branches_row bs row ≡ branches_onto bs (items-the_row-Branch m row)
 branches_row_is bs end_of-Branch = refl
-branches_row_is bs (more_of-Branch p q e t rest) = branches_row_is (and_branch bs (branch_tree (record { place = p; «open» = q; condition = e; body = t }))) rest
+branches_row_is bs (more_of-Branch p q e a t rest) = branches_row_is (and_branch bs (a_branch p q (expr_tree e.value) (stmt_tree t))) rest
 
-branches_of : (bs : Vec Branch Global) → branches_row no_branches (all.hidden-the_row-Branch-1 bs) ≡ branches_onto no_branches bs.items
-branches_of bs = branches_row_is no_branches (all.hidden-the_row-Branch-1 bs) ∙ ap (branches_onto no_branches) (items_hidden-the_row-Branch-1 bs)
+branches_of : (b : Branch) (bs : Vec Branch Global) → branches_row (first_branch (branch_tree b)) (all.hidden-the_row-Branch-1 bs) ≡ branches_tree b bs.items
+branches_of b bs = branches_row_is (first_branch (branch_tree b)) (all.hidden-the_row-Branch-1 bs) ∙ ap (branches_onto (first_branch (branch_tree b))) (items_hidden-the_row-Branch-1 bs)
 
 pub stmt_tree-Block : (p : Place) (ss : Vec Stmt Global) → stmt_tree (stmt.Block p ss) ≡ Block p (stmts_onto no_stmts ss.items)
 stmt_tree-Block p ss = ap (Block p) (stmts_row_is no_stmts (all.hidden-the_row-Stmt-0 ss) ∙ ap (stmts_onto no_stmts) (items_hidden-the_row-Stmt-0 ss))
 
-pub stmt_tree-If : (bs : Vec Branch Global) → stmt_tree (stmt.If bs) ≡ If (branches_onto no_branches bs.items)
-stmt_tree-If bs = ap If (branches_of bs)
+pub stmt_tree-If : (b : Branch) (bs : Vec Branch Global) → stmt_tree (stmt.If b bs) ≡ If (branches_tree b bs.items)
+stmt_tree-If b bs = ap If (branches_of b bs)
 
-pub stmt_tree-IfElse : (bs : Vec Branch Global) (t : Box Stmt Global) → stmt_tree (stmt.IfElse bs t) ≡ IfElse (branches_onto no_branches bs.items) (stmt_tree t.value)
-stmt_tree-IfElse bs t = ap (λ x. IfElse x (stmt_tree t.value)) (branches_of bs)
+pub stmt_tree-IfElse : (b : Branch) (bs : Vec Branch Global) (t : Box Stmt Global) → stmt_tree (stmt.IfElse b bs t) ≡ IfElse (branches_tree b bs.items) (stmt_tree t.value)
+stmt_tree-IfElse b bs t = ap (λ x. IfElse x (stmt_tree t.value)) (branches_of b bs)
 
 pub ruleset statements = (stmts_onto-end, branches_onto-end, stmt_tree-Block, stmt_tree-If, stmt_tree-IfElse)

@@ -1,4 +1,4 @@
 pub mod Trees
 pub mod Spelling
 pub mod Units
-pub mod Law
+pub mod Build

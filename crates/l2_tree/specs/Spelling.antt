@@ -1,5 +1,5 @@
 -- The run of each form: its tokens and the constructs that stand in it, in their order, as the grammar's networks read them.
-use Rattle.std.specs.Prelude.{Bool, true, false, cond, List, [], ◌∷◌, Option, Some, None}
+use Rattle.std.specs.Prelude.{◌≡◌, Bool, true, false, cond, List, [], ◌∷◌, Option, Some, None}
 use Rattle.l2_syntax.specs.declared.place.Place.{Place}
 use Rattle.l2_syntax.specs.declared.token.Mark.{Mark}
 use Rattle.l2_syntax.specs.declared.token.Mark.TheVariants as mark
@@ -24,7 +24,7 @@ use Rattle.l2_tree.specs.declared.operators.SpecifierWord.TheVariants as word
 use Rattle.l2_tree.specs.declared.expression.Tag.{Tag}
 use Rattle.l2_tree.specs.declared.expression.Pointer.{Pointer}
 use Rattle.l2_tree.specs.declared.expression.Pointer.TheVariants as pointer
-use Rattle.l2_tree.specs.Trees.{ExprTree, Name, Number, Text, Parenthesised, Index, Call, Member, PostUpdate, Update, Unary, Sizeof, SizeofType, Cast, Binary, Conditional, Assign, Comma, ExprTrees, no_exprs, and_expr, SpecifierTree, Word, TypeName, Struct, StructBody, Enum, EnumBody, SpecifierTrees, no_specifiers, and_specifier, EnumeratorTree, Plain, Valued, EnumeratorTrees, no_enumerators, and_enumerator, ParameterTree, Bare, Declared, ParameterTrees, no_parameters, and_parameter, DeclaratorTree, Declarator, CoreTree, Absent, Named, Group, SuffixTree, Array, ArrayOf, Parameters, SuffixTrees, no_suffixes, and_suffix, InitialiserTree, Expression, Braced, InitialiserTrees, no_initialisers, and_initialiser, DeclaredTree, Uninitialised, Initialised, DeclaredTrees, no_declarators, and_declarator, DeclarationTree, Declaration, DeclarationTrees, no_declarations, and_declaration, FirstTree, NoFirst, FirstExpression, FirstDeclaration, StmtTree, Declare, Block, Evaluate, Empty, If, IfElse, While, Switch, Do, For, Case, Default, Label, Break, Continue, Return, ReturnValue, StmtTrees, no_stmts, and_stmt, BranchTree, Branch, BranchTrees, no_branches, and_branch, ExternalTree, Nothing, Global, Typedef, Function}
+use Rattle.l2_tree.specs.Trees.{ExprTree, Name, Number, Text, Parenthesised, Index, Call, Member, PostUpdate, Update, Unary, Sizeof, SizeofType, Cast, Binary, Conditional, Assign, Comma, ExprTrees, no_exprs, and_expr, SpecifierTree, Word, TypeName, Struct, StructBody, Enum, EnumBody, SpecifierTrees, first_specifier, and_specifier, EnumeratorTree, Plain, Valued, EnumeratorTrees, first_enumerator, and_enumerator, ParameterTree, Bare, Declared, ParameterTrees, no_parameters, and_parameter, DeclaratorTree, Declarator, CoreTree, Absent, Named, Group, SuffixTree, Array, ArrayOf, Parameters, SuffixTrees, no_suffixes, and_suffix, InitialiserTree, Expression, Braced, InitialiserTrees, first_initialiser, and_initialiser, DeclaredTree, Uninitialised, Initialised, DeclaredTrees, no_declarators, and_declarator, DeclarationTree, Declaration, DeclarationTrees, no_declarations, and_declaration, FirstTree, NoFirst, FirstExpression, FirstDeclaration, StmtTree, Declare, Block, Evaluate, Empty, If, IfElse, While, Switch, Do, For, Case, Default, Label, Break, Continue, Return, ReturnValue, StmtTrees, no_stmts, and_stmt, BranchTree, Branch, BranchTrees, first_branch, and_branch, ExternalTree, Nothing, Global, Typedef, Function}
 
 -- ---- tokens
 
@@ -47,6 +47,12 @@ is_placed k = true
 -- a token as a tree keeps it
 abbrev pub plain : Seen → Seen
 plain t = record { kind = t.kind; at = cond (is_placed t.kind) t.at nowhere }
+
+-- each token of a tree is as trees keep it
+abbrev pub Keeps : Tree → Type 0
+Keeps (begin s) = Unit {0}
+Keeps (token a t) = Keeps a × (plain t ≡ t)
+Keeps (child a b) = Keeps a × Keeps b
 
 -- behind this token, at its place
 abbrev pub behind : Tree → TokenKind → Place → Tree
@@ -133,33 +139,18 @@ abbrev pub tag_onto : Tree → Option Tag → Tree
 tag_onto r None = r
 tag_onto r (Some t) = behind r (kind.Word t.name) t.place
 
--- whether a list has an element already, so that a comma or an `else` stands before the next
+-- whether a list has an element already, so that a comma stands before the next
 abbrev pub has_arguments : ExprTrees → Bool
 has_arguments no_exprs = false
 has_arguments (and_expr xs x) = true
-
-abbrev pub has_enumerators : EnumeratorTrees → Bool
-has_enumerators no_enumerators = false
-has_enumerators (and_enumerator xs x) = true
 
 abbrev pub has_parameters : ParameterTrees → Bool
 has_parameters no_parameters = false
 has_parameters (and_parameter xs x) = true
 
-abbrev pub has_initialisers : InitialiserTrees → Bool
-has_initialisers no_initialisers = false
-has_initialisers (and_initialiser xs x) = true
-
 abbrev pub has_declarators : DeclaredTrees → Bool
 has_declarators no_declarators = false
 has_declarators (and_declarator xs x) = true
-
-abbrev pub has_branches : BranchTrees → Bool
-has_branches no_branches = false
-has_branches (and_branch xs x) = true
-
-abbrev pub else_if : Bool → Tree → Tree
-else_if b r = cond b (closed r mark.Else) r
 
 -- a comma, if there is one
 abbrev pub comma_if : Bool → Tree → Tree
@@ -210,7 +201,7 @@ abbrev mutual
   specifier_onto r (EnumBody p t q es b) = closed (comma_if b (enumerators_onto (mark_at (tag_onto (mark_at r mark.Enum p) t) mark.OpenBrace q) es)) mark.CloseBrace
 
   pub specifiers_onto : Tree → SpecifierTrees → Tree
-  specifiers_onto r no_specifiers = r
+  specifiers_onto r (first_specifier x) = specifier_onto r x
   specifiers_onto r (and_specifier xs x) = specifier_onto (specifiers_onto r xs) x
 
   pub members_onto : Tree → DeclarationTrees → Tree
@@ -223,8 +214,8 @@ abbrev mutual
 
   -- enumerators, with commas between them
   pub enumerators_onto : Tree → EnumeratorTrees → Tree
-  enumerators_onto r no_enumerators = r
-  enumerators_onto r (and_enumerator es e) = enumerator_onto (comma_if (has_enumerators es) (enumerators_onto r es)) e
+  enumerators_onto r (first_enumerator e) = enumerator_onto r e
+  enumerators_onto r (and_enumerator es e) = enumerator_onto (closed (enumerators_onto r es) mark.Comma) e
 
   pub run_parameter : Sort → ParameterTree → Tree
   run_parameter s (Bare xs) = specifiers_onto (begin s) xs
@@ -258,8 +249,8 @@ abbrev mutual
 
   -- initialisers, with commas between them
   pub initialisers_onto : Tree → InitialiserTrees → Tree
-  initialisers_onto r no_initialisers = r
-  initialisers_onto r (and_initialiser is i) = within (comma_if (has_initialisers is) (initialisers_onto r is)) (λ z. run_initialiser z i)
+  initialisers_onto r (first_initialiser i) = within r (λ z. run_initialiser z i)
+  initialisers_onto r (and_initialiser is i) = within (closed (initialisers_onto r is) mark.Comma) (λ z. run_initialiser z i)
 
   pub declared_onto : Tree → DeclaredTree → Tree
   declared_onto r (Uninitialised d) = within r (λ z. run_declarator z d)
@@ -275,9 +266,7 @@ abbrev mutual
 
 -- ---- statements and units
 
--- a declaration of nothing would be a `;` alone: it has no run that may stand anywhere
 abbrev pub run_declaration : Sort → DeclarationTree → Tree
-run_declaration s (Declaration no_specifiers no_declarators) = begin sort.Nowhere
 run_declaration s d = declaration_onto (begin s) d
 
 abbrev pub perhaps : Tree → Option ExprTree → Tree
@@ -288,7 +277,7 @@ perhaps r (Some e) = within r (λ z. run_expr z e)
 abbrev pub first_onto : Tree → FirstTree → Tree
 first_onto r NoFirst = closed r mark.Semicolon
 first_onto r (FirstExpression e) = closed (within r (λ z. run_expr z e)) mark.Semicolon
-first_onto r (FirstDeclaration d) = within r (λ z. declaration_onto (begin z) d)
+first_onto r (FirstDeclaration d) = within r (λ z. run_declaration z d)
 
 -- `( e )` behind a word
 abbrev pub head_onto : Tree → Place → ExprTree → Tree
@@ -323,8 +312,8 @@ abbrev mutual
 
   -- branches, with `else` between them
   pub branches_onto : Tree → BranchTrees → Tree
-  branches_onto r no_branches = r
-  branches_onto r (and_branch bs b) = branch_onto (else_if (has_branches bs) (branches_onto r bs)) b
+  branches_onto r (first_branch b) = branch_onto r b
+  branches_onto r (and_branch bs b) = branch_onto (closed (branches_onto r bs) mark.Else) b
 
 abbrev pub run_external : Sort → ExternalTree → Tree
 run_external s Nothing = closed (begin s) mark.Semicolon

@@ -44,10 +44,11 @@ mutual
     Struct : Place → Tag → SpecifierTree
     StructBody : Place → Option Tag → Place → DeclarationTrees → SpecifierTree
     Enum : Place → Tag → SpecifierTree
+    -- whether a comma stands behind the last enumerator
     EnumBody : Place → Option Tag → Place → EnumeratorTrees → Bool → SpecifierTree
 
   pub data SpecifierTrees : Type 0 where
-    no_specifiers : SpecifierTrees
+    first_specifier : SpecifierTree → SpecifierTrees
     and_specifier : SpecifierTrees → SpecifierTree → SpecifierTrees
 
   pub data EnumeratorTree : Type 0 where
@@ -55,7 +56,7 @@ mutual
     Valued : ℕ → Place → Place → ExprTree → EnumeratorTree
 
   pub data EnumeratorTrees : Type 0 where
-    no_enumerators : EnumeratorTrees
+    first_enumerator : EnumeratorTree → EnumeratorTrees
     and_enumerator : EnumeratorTrees → EnumeratorTree → EnumeratorTrees
 
   pub data ParameterTree : Type 0 where
@@ -88,7 +89,7 @@ mutual
     Braced : Place → InitialiserTrees → Bool → InitialiserTree
 
   pub data InitialiserTrees : Type 0 where
-    no_initialisers : InitialiserTrees
+    first_initialiser : InitialiserTree → InitialiserTrees
     and_initialiser : InitialiserTrees → InitialiserTree → InitialiserTrees
 
   pub data DeclaredTree : Type 0 where
@@ -140,7 +141,7 @@ mutual
     Branch : Place → Place → ExprTree → StmtTree → BranchTree
 
   pub data BranchTrees : Type 0 where
-    no_branches : BranchTrees
+    first_branch : BranchTree → BranchTrees
     and_branch : BranchTrees → BranchTree → BranchTrees
 
 pub data ExternalTree : Type 0 where

@@ -59,7 +59,15 @@ pub enum Specifier {
     /// `enum E`.
     Enum(Place, Tag),
     /// `enum { .. }` or `enum E { .. }`, and whether a comma stands behind the last enumerator.
-    EnumBody(Place, Option<Tag>, Place, Vec<Enumerator>, bool),
+    EnumBody(Place, Option<Tag>, Place, Enumerators, bool),
+}
+
+/// The specifiers of a declaration or of a type: one at least.
+#[cycle(expression)]
+#[derive(Drop)]
+pub struct Specifiers {
+    pub first: Box<Specifier>,
+    pub rest: Vec<Specifier>,
 }
 
 /// An enumerator (C11 6.7.2.2).
@@ -68,15 +76,23 @@ pub enum Specifier {
 pub enum Enumerator {
     Plain(u32, Place),
     /// `N = e`, with the place of the `=`.
-    Valued(u32, Place, Place, Expr),
+    Valued(u32, Place, Place, Box<Expr>),
+}
+
+/// The enumerators in braces: one at least.
+#[cycle(expression)]
+#[derive(Drop)]
+pub struct Enumerators {
+    pub first: Box<Enumerator>,
+    pub rest: Vec<Enumerator>,
 }
 
 /// A parameter, or the name of a type (C11 6.7.6 and 6.7.7): its specifiers, and perhaps a declarator.
 #[cycle(expression)]
 #[derive(Drop)]
 pub enum Parameter {
-    Plain(Vec<Specifier>),
-    Declared(Vec<Specifier>, Declarator),
+    Plain(Specifiers),
+    Declared(Specifiers, Declarator),
 }
 
 /// `*`, or `* const` with both places.
@@ -104,7 +120,7 @@ pub enum Suffix {
     /// `[ ]`.
     Array(Place),
     /// `[ e ]`.
-    ArrayOf(Place, Expr),
+    ArrayOf(Place, Box<Expr>),
     /// `( parameters )`.
     Parameters(Place, Vec<Parameter>),
 }
@@ -122,9 +138,17 @@ pub struct Declarator {
 #[cycle(expression)]
 #[derive(Drop)]
 pub enum Initialiser {
-    Expression(Expr),
+    Expression(Box<Expr>),
     /// `{ .. }`, and whether a comma stands behind the last item.
-    Braced(Place, Vec<Initialiser>, bool),
+    Braced(Place, Initialisers, bool),
+}
+
+/// The items of an initialiser in braces: one at least.
+#[cycle(expression)]
+#[derive(Drop)]
+pub struct Initialisers {
+    pub first: Box<Initialiser>,
+    pub rest: Vec<Initialiser>,
 }
 
 /// A declarator in a declaration, perhaps with an initialiser behind a `=`.
@@ -139,6 +163,6 @@ pub enum Declared {
 #[cycle(expression)]
 #[derive(Drop)]
 pub struct Declaration {
-    pub specifiers: Vec<Specifier>,
+    pub specifiers: Specifiers,
     pub declarators: Vec<Declared>,
 }

@@ -2,24 +2,20 @@
 //! each token but closing brackets, commas, colons, semicolons, `else` and the end of the text.
 #![tactic(auto)]
 
-mod declared;
-mod error;
 mod expression;
-mod laws;
 mod operators;
+mod starts;
 mod statement;
 mod unit;
 
-pub use declared::{global_of, item_of};
-pub use error::FormError;
 pub use expression::{
-    Core, Declaration, Declarator, Declared, Enumerator, Expr, Initialiser, Parameter, Pointer,
-    Specifier, Suffix, Tag,
+    Core, Declaration, Declarator, Declared, Enumerator, Enumerators, Expr, Initialiser,
+    Initialisers, Parameter, Pointer, Specifier, Specifiers, Suffix, Tag,
 };
-pub use laws::{unique_run_law, unique_tree_law};
 pub use operators::{
     AssignmentOperator, BinaryOperator, MemberOperator, SpecifierWord, UnaryOperator,
     UpdateOperator,
 };
+pub use starts::{Continuation, Leader, Opening};
 pub use statement::{Branch, First, Stmt};
 pub use unit::{External, Unit};

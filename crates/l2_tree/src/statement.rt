@@ -7,15 +7,15 @@ use l2_syntax::Place;
 pub struct Branch {
     pub place: Place,
     pub open: Place,
-    pub condition: Expr,
-    pub body: Stmt,
+    pub condition: Box<Expr>,
+    pub body: Box<Stmt>,
 }
 
 /// The first part of a `for` (C11 6.8.5.3).
 #[derive(Drop)]
 pub enum First {
     Absent,
-    Expression(Expr),
+    Expression(Box<Expr>),
     Declaration(Declaration),
 }
 
@@ -26,19 +26,19 @@ pub enum Stmt {
     Declaration(Declaration),
     /// `{ .. }`.
     Block(Place, Vec<Stmt>),
-    Expression(Expr),
+    Expression(Box<Expr>),
     /// `;`.
     Empty,
-    /// `if ( e ) s else if ( f ) t ..`, without a last `else`.
-    If(Vec<Branch>),
+    /// `if ( e ) s else if ( f ) t ..`, without a last `else`: the first branch and the others.
+    If(Branch, Vec<Branch>),
     /// `if ( e ) s else if ( f ) t .. else u`.
-    IfElse(Vec<Branch>, Box<Stmt>),
-    While(Place, Place, Expr, Box<Stmt>),
-    Switch(Place, Place, Expr, Box<Stmt>),
+    IfElse(Branch, Vec<Branch>, Box<Stmt>),
+    While(Place, Place, Box<Expr>, Box<Stmt>),
+    Switch(Place, Place, Box<Expr>, Box<Stmt>),
     /// `do s while ( e ) ;`.
-    Do(Place, Box<Stmt>, Place, Place, Expr),
-    For(Place, Place, First, Option<Expr>, Option<Expr>, Box<Stmt>),
-    Case(Place, Expr, Box<Stmt>),
+    Do(Place, Box<Stmt>, Place, Place, Box<Expr>),
+    For(Place, Place, First, Option<Box<Expr>>, Option<Box<Expr>>, Box<Stmt>),
+    Case(Place, Box<Expr>, Box<Stmt>),
     Default(Place, Box<Stmt>),
     Label(u32, Place, Box<Stmt>),
     Break(Place),
@@ -46,5 +46,5 @@ pub enum Stmt {
     /// `return ;`.
     Return(Place),
     /// `return e ;`.
-    ReturnValue(Place, Expr),
+    ReturnValue(Place, Box<Expr>),
 }

@@ -1,4 +1,4 @@
-use crate::expression::{Declaration, Declarator, Specifier};
+use crate::expression::{Declaration, Declarator, Specifiers};
 use crate::statement::Stmt;
 use l2_bits::List;
 use l2_syntax::{Name, Place, Token};
@@ -12,7 +12,7 @@ pub enum External {
     /// `typedef` and a declaration.
     Typedef(Place, Declaration),
     /// A function's definition, with the place of the brace of its body.
-    Function(Vec<Specifier>, Declarator, Place, Vec<Stmt>),
+    Function(Specifiers, Declarator, Place, Vec<Stmt>),
 }
 
 /// A whole text: its parts, its constants in their order, and the names that words are numbered by.

@@ -1,6 +1,6 @@
 use Rattle.std.proofs.Common.{◌≡◌, ◌+◌, suc, arith, sym, ap, ◌∙◌, Some, drop}
-use Rattle.l2_tree.specs.Trees.{no_stmts, no_branches}
-use Rattle.l2_tree.specs.Units.{stmt_tree, stmts_onto, branches_onto}
+use Rattle.l2_tree.specs.Trees.{no_stmts}
+use Rattle.l2_tree.specs.Units.{stmt_tree, stmts_onto, branches_tree}
 use Rattle.l2_small.specs.SmallTrees.{none, also, small_stmt_tree, small_stmts_onto}
 use Rattle.l2_small.specs.SmallForm.{small_stmts, small_block, small_branch}
 use Rattle.l2_small.proofs.SmallTrees.{small_stmt_tree-Block, small_stmts_onto-end, made_as}
@@ -36,23 +36,23 @@ block-returns-in_ok-items-in-Block-clause-ok t c =
 
 pub statement-returns-in_err-first-in-If-clause-not_small : goal.statement-returns-in_err-first-in-If-clause-not_small
 statement-returns-in_err-first-in-If-clause-not_small t c = λ h.
-    small_stmt-If _ _ _ c.in-If.is
-    ∙ none_map _ _ (ap (λ xs. small_branch c.args.names.now (branches_onto no_branches xs)) (sym c.deref.ensures.value) ∙ c.in_err-first-in-If.ensures.not_small (grind arith))
+    small_stmt-If _ _ _ _ c.in-If.is
+    ∙ none_map _ _ (ap (λ xs. small_branch c.args.names.now (branches_tree c.in-If.only xs)) (sym c.deref-in-If.ensures.value) ∙ c.in_err-first-in-If.ensures.not_small (grind arith))
 
 pub statement-returns-in_ok-first-in-If-clause-ok : goal.statement-returns-in_ok-first-in-If-clause-ok
 statement-returns-in_ok-first-in-If-clause-ok t c = made_as c.if_then.result _ _
-    (small_stmt-If _ _ _ c.in-If.is
-    ∙ some_map _ _ _ (ap (λ xs. small_branch c.args.names.now (branches_onto no_branches xs)) (sym c.deref.ensures.value) ∙ c.in_ok-first-in-If.ensures.ok))
+    (small_stmt-If _ _ _ _ c.in-If.is
+    ∙ some_map _ _ _ (ap (λ xs. small_branch c.args.names.now (branches_tree c.in-If.only xs)) (sym c.deref-in-If.ensures.value) ∙ c.in_ok-first-in-If.ensures.ok))
     c.if_then.ensures.ok
 
 pub statement-returns-in_err-first-in-IfElse-clause-not_small : goal.statement-returns-in_err-first-in-IfElse-clause-not_small
 statement-returns-in_err-first-in-IfElse-clause-not_small t c = λ h.
-    small_stmt-IfElse _ _ _ _ c.in-IfElse.is
-    ∙ none_then _ _ (ap (λ xs. small_branch c.args.names.now (branches_onto no_branches xs)) (sym c.deref-in-IfElse.ensures.value) ∙ c.in_err-first-in-IfElse.ensures.not_small (grind arith))
+    small_stmt-IfElse _ _ _ _ _ c.in-IfElse.is
+    ∙ none_then _ _ (ap (λ xs. small_branch c.args.names.now (branches_tree c.in-IfElse.only xs)) (sym c.deref-in-IfElse.ensures.value) ∙ c.in_err-first-in-IfElse.ensures.not_small (grind arith))
 
 pub statement-returns-in_ok-last-in-IfElse-clause-ok : goal.statement-returns-in_ok-last-in-IfElse-clause-ok
 statement-returns-in_ok-last-in-IfElse-clause-ok t c = made_as c.if_else.result _ _
-    (small_stmt-IfElse _ _ _ _ c.in-IfElse.is
-    ∙ some_then _ _ _ (ap (λ xs. small_branch c.args.names.now (branches_onto no_branches xs)) (sym c.deref-in-IfElse.ensures.value) ∙ c.in_ok-first-in-IfElse.ensures.ok)
+    (small_stmt-IfElse _ _ _ _ _ c.in-IfElse.is
+    ∙ some_then _ _ _ (ap (λ xs. small_branch c.args.names.now (branches_tree c.in-IfElse.only xs)) (sym c.deref-in-IfElse.ensures.value) ∙ c.in_ok-first-in-IfElse.ensures.ok)
     ∙ some_map _ _ _ (ap (λ s. small_block c.args.names.now (stmt_tree s)) (sym c.deref-in-IfElse-2.ensures) ∙ c.in_ok-last-in-IfElse.ensures.ok))
     c.if_else.ensures.ok

@@ -1,5 +1,0 @@
-use Rattle.l2_tree.proofs.Declarations.{suffix_tree-Parameters}
-use Rattle.l2_declarator_forms.proofs.parts.parameters_suffix.Goals as goal
-
-pub returns : goal.returns
-returns c = suffix_tree-Parameters c.args.place c.args.parameters

@@ -1,9 +1,0 @@
-pub mod Never
-pub mod Begun
-pub mod Left
-pub mod Links
-pub mod Folding
-pub mod Weights
-pub mod Wholes
-pub mod Joined
-pub mod Appended

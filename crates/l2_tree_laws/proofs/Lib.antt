@@ -1,0 +1,14 @@
+pub mod Runs
+pub mod Firsts
+pub mod BackMarks
+pub mod BackSteps
+pub mod BackDeclarators
+pub mod BackDeclarations
+pub mod BackExpressions
+pub mod BackStatements
+pub mod Unique
+pub mod Forms
+pub mod FormTokens
+pub mod FormChildren
+pub mod Built
+pub mod Firstly
