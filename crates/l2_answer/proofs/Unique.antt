@@ -104,10 +104,11 @@ same_over o q e = cc
 
 same_end : (p : ProgramTree) (e : Execution) (s t : Status) (k l : List ℕ) → Ends p e s k → Ends p e t l → (s ≡ t) × (k ≡ l)
 same_end p e s t k l a b =
-    let o : a.outcome ≡ b.outcome = same_over a.outcome b.outcome (sym a.ends ∙ b.ends) in
-    (a.status_is ∙ ap status_of o ∙ sym b.status_is,
-    same_some (replay_line p.checks b.outcome e.turns_used e.choices_used) k l
-    (subst (λ x. replay_line p.checks x e.turns_used e.choices_used ≡ Some k) o a.line_is) b.line_is)
+    let o : a.outcome ≡ b.outcome = same_over a.outcome b.outcome (sym a.ends ∙ b.ends) in (
+      a.status_is ∙ ap status_of o ∙ sym b.status_is,
+      same_some (replay_line p.checks b.outcome e.turns_used e.choices_used) k l
+          (subst (λ x. replay_line p.checks x e.turns_used e.choices_used ≡ Some k) o a.line_is) b.line_is,
+    )
 
 same_execution : (text values : List ℕ) → UniqueUnitLaw → (p q : ProgramTree) (e f : Execution) → p ≡ q → Executes text values p e → Executes text values q f → e ≡ f
 same_execution text values unique p q e f pq x y =
