@@ -158,11 +158,7 @@ fn array_of<'a>(
 
 /// A length, behind its `[`.
 #[cycle(build)]
-fn array<'a>(
-    alloc: Global,
-    place: Place,
-    parts: &'a [Syntax],
-) -> Result<OneSuffix<'a>, BuildError>
+fn array<'a>(alloc: Global, place: Place, parts: &'a [Syntax]) -> Result<OneSuffix<'a>, BuildError>
     ensures ok { IfOk result (λ r. (xs : SuffixTrees) → array_so xs place (parts_of parts.now) ≡ suffixes_so (and_suffix xs (suffix_tree r.value)) (parts_of r.rest.now)) }
     ensures less { IfOk result (λ r. size_of r.rest.now ≤ size_of parts.now) }
     ensures err { IfErr result (λ e. e ≢ BuildError.NoMemory → (xs : SuffixTrees) → array_so xs place (parts_of parts.now) ≡ None) }

@@ -35,10 +35,7 @@ pub fn structure(
     ensures ok { IfOk result (λ s. specifier_tree s.value ≡ struct_tree place tag brace (declarations_onto no_declarations members.items)) }
     ensures err { IfErr result (λ f. f ≡ BuildError.NoMemory) }
 {
-    Ok(Box::new(
-        alloc,
-        Specifier::StructBody(place, tag, brace, members),
-    )?)
+    Ok(Box::new(alloc, Specifier::StructBody(place, tag, brace, members))?)
 }
 
 /// An enum with its enumerators.
@@ -113,7 +110,10 @@ fn plain_declared(declarator: Declarator) -> Declared
 }
 
 /// A declarator without an initialiser.
-pub fn uninitialised(alloc: Global, declarator: Box<Declarator>) -> Result<Box<Declared>, BuildError>
+pub fn uninitialised(
+    alloc: Global,
+    declarator: Box<Declarator>,
+) -> Result<Box<Declared>, BuildError>
     ensures ok { IfOk result (λ d. declared_tree d.value ≡ uninitialised_tree (declarator_tree declarator.value)) }
     ensures err { IfErr result (λ f. f ≡ BuildError.NoMemory) }
 {

@@ -341,8 +341,13 @@ pub fn tail(alloc: Global, value: Box<Expr>, parts: &[Syntax]) -> Result<Box<Exp
                 let Some(continuation) = continuation_of(token.kind) else {
                     return Err(BuildError::Misfit);
                 };
-                let Operand { value, rest } =
-                    continued(alloc, continuation, operand, token.place, behind)?;
+                let Operand { value, rest } = continued(
+                    alloc,
+                    continuation,
+                    operand,
+                    token.place,
+                    behind,
+                )?;
                 operand = value;
                 left = rest;
             }

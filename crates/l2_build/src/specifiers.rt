@@ -319,10 +319,7 @@ fn enum_of<'a>(
 
 /// The next specifier, where one stands next.
 #[cycle(build)]
-fn specifier<'a>(
-    alloc: Global,
-    parts: &'a [Syntax],
-) -> Result<Option<OneSpecifier<'a>>, BuildError>
+fn specifier<'a>(alloc: Global, parts: &'a [Syntax]) -> Result<Option<OneSpecifier<'a>>, BuildError>
     ensures ok { IfOk result (λ o. (xs : Option SpecifierTrees) → specifiers_so xs (parts_of parts.now) ≡ goes_on_or xs o (parts_of parts.now)) }
     ensures less { IfOk result (λ o. IfSome o (λ r. size_of r.rest.now < size_of parts.now)) }
     ensures err { IfErr result (λ e. e ≢ BuildError.NoMemory → (xs : Option SpecifierTrees) → specifiers_so xs (parts_of parts.now) ≡ None) }

@@ -235,4 +235,3 @@ decreases-declarations::with_initialiser l = 16 * size_of l.parts.now
 
 abbrev pub decreases-declarations::declarator_list : goal.decreases-declarations::declarator_list
 decreases-declarations::declarator_list l = 16 * size_of l.parts.now + 2
-
