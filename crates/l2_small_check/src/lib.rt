@@ -7,6 +7,7 @@ mod expressions;
 mod found;
 mod laws;
 mod make;
+mod named;
 mod statements;
 mod table;
 mod unit;
