@@ -43,15 +43,15 @@ at_end (w ∷ a) x (y ∷ b) p = at_end a x b (grind arith)
 pub at_last : {A : Type 0} (a : List A) (x : A) (b : List A) → Begins (a ++ x ∷ []) b → at_number b (length a + 1) ≡ Some x
 at_last a x b p = let e : length a + 1 ≡ suc (length a) = omega arith in ap (at_number b) e ∙ at_end a x b p
 
-record Grows (a b : Found) : Type 0 where
-  objects : Begins a.objects b.objects
-  loops : Begins a.loops b.loops
-  checks : Begins a.checks b.checks
+pub record Grows (a b : Found) : Type 0 where
+  pub objects : Begins a.objects b.objects
+  pub loops : Begins a.loops b.loops
+  pub checks : Begins a.checks b.checks
 
-grows_not : (a : Found) → Grows a a
+pub grows_not : (a : Found) → Grows a a
 grows_not a = record { objects = take-length a.objects; loops = take-length a.loops; checks = take-length a.checks }
 
-grows_trans : (a b c : Found) → Grows a b → Grows b c → Grows a c
+pub grows_trans : (a b c : Found) → Grows a b → Grows b c → Grows a c
 grows_trans a b c p q = record {
   objects = begins_trans a.objects b.objects c.objects p.objects q.objects;
   loops = begins_trans a.loops b.loops c.loops p.loops q.loops;

@@ -14,5 +14,5 @@ mod unit;
 
 pub use entry::Entry;
 pub use error::CheckError;
-pub use laws::{names_are_declared_once, programs_say_what_texts_say};
+pub use laws::{names_are_declared_once, programs_are_lawful, programs_say_what_texts_say};
 pub use unit::check;
