@@ -316,14 +316,20 @@ module _ (p : ProgramTree) (ints : AreInts p.objects) where
   block_fits : (scope : Scope) (found : Found) (x : Option (Elaborated (List CheckedTree))) → FitsAll scope found x → FitsItem scope found (option_map (made block) (within scope x))
   block_fits scope found None h = tt
   block_fits scope found (Some r) h = record {
-    grows = h.grows; adds = h.adds; more_ints = h.more_ints; more_mains = h.more_mains;
+    grows = h.grows;
+    adds = h.adds;
+    more_ints = h.more_ints;
+    more_mains = h.more_mains;
     good = λ g k. let (kn, ty, ch, sc, be) = h.good g k in (k, ty, ch, sc, refl);
   }
 
   declaration_fits : (scope : Scope) (found : Found) (x : Option (Elaborated ℕ)) → FitsDeclared scope found x → FitsItem scope found (option_map (made checked.Declare) x)
   declaration_fits scope found None h = tt
   declaration_fits scope found (Some d) h = record {
-    grows = h.grows; adds = h.adds; more_ints = h.more_ints; more_mains = h.more_mains;
+    grows = h.grows;
+    adds = h.adds;
+    more_ints = h.more_ints;
+    more_mains = h.more_mains;
     good = λ g k. let (kn, some, seam) = h.good g k in (kn, tt, tt, statics_known d.tree, sym seam);
   }
 
@@ -462,10 +468,13 @@ module _ (p : ProgramTree) (ints : AreInts p.objects) where
       more_mains = λ a. j.more_mains (h.more_mains a);
       good = λ g k.
           let (kn, ty, ch, sc, be) = h.good (grows_trans r.found q.found (found_in p) j.grows g) k in
-          let (kn2, ty2, ch2, sc2, be2) = j.good g kn in
-          (kn2, typed_end r.tree q.tree ty ty2, checks_end r.tree q.tree ch ch2,
+          let (kn2, ty2, ch2, sc2, be2) = j.good g kn in (
+            kn2,
+            typed_end r.tree q.tree ty ty2,
+            checks_end r.tree q.tree ch ch2,
             scoped_end (objects_in scope) r.tree q.tree sc (subst (λ ns. IsScopedStatement (statics_of p) ns q.tree) (sym be) sc2),
-            behind_end (objects_in scope) r.tree q.tree ∙ ap (λ ns. behind ns q.tree) be ∙ be2);
+            behind_end (objects_in scope) r.tree q.tree ∙ ap (λ ns. behind ns q.tree) be ∙ be2,
+          );
     }
 
   mutual

@@ -15,9 +15,9 @@ use crate::found::Found;
 use crate::statements::items;
 use crate::table::{Table, number};
 use l2_bits::{List, Ty};
-use l2_small::SmallUnit;
 use l2_program::{Checked, FunctionInfo, Program};
 use l2_runs::CellType;
+use l2_small::SmallUnit;
 use l2_syntax::{Name, Place};
 use std::alloc::Global;
 

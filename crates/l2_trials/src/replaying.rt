@@ -1,7 +1,7 @@
 use l2_bits::{List, Ty};
-use l2_replay::replay;
 use l2_program::{CheckInfo, Checked, FunctionInfo, Kind, Lvalue, ObjectInfo, Program, Typed};
-use l2_runs::{Outcome, BinaryOperator, CellType, CellValue};
+use l2_replay::replay;
+use l2_runs::{BinaryOperator, CellType, CellValue, Outcome};
 use l2_syntax::{Name, Place};
 use std::alloc::Global;
 use std::test::Fail;

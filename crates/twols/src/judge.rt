@@ -11,12 +11,12 @@ ghost use Rattle.twols.specs.Answers.{Judged, IsProgram, IsNoProgram, IsRefusalO
 use crate::line::{refusal_line, replay_line};
 use crate::status::Status;
 use l2_lex::tokens;
-use l2_runs::Outcome;
 use l2_parse_unit::{parse, refused_law, unique_unit_law};
+use l2_program::Program;
 use l2_replay::replay;
+use l2_runs::Outcome;
 use l2_small::{SmallError, small};
 use l2_small_check::{CheckError, check};
-use l2_program::Program;
 use l2_syntax::{Place, Refusal, Rule, TextFault};
 use l2_tree::Unit;
 use l2_witness::{Values, ValuesError, read_values};

@@ -5,9 +5,9 @@ ghost use Rattle.l2_replay.specs.Reach.{execution_of};
 ghost use Rattle.l2_syntax.specs.Refusals.{rule_text};
 ghost use Rattle.twols.specs.Printed.{outcome_text, broken_text, replay_line, refusal_line};
 
-use l2_runs::Outcome;
-use l2_replay::Replay;
 use l2_program::CheckInfo;
+use l2_replay::Replay;
+use l2_runs::Outcome;
 use l2_syntax::{Place, Refusal};
 use std::alloc::{AllocError, Global};
 
