@@ -137,9 +137,16 @@ fn whole(rt: &HostRuntime, alloc: Global) -> bool {
     let choice = [A, QUESTION, B, COLON, C];
     let cast = [OPEN, INT, CLOSE, A];
     let inside = [OPEN, A, CLOSE, B];
-    report(rt, "a - b - c", trial(alloc, &difference, 0, 0, Level::Comma))
-        && report(rt, "its end", trial(alloc, &difference, 2, 0, Level::Comma))
-        && report(rt, "a ? b : c", trial(alloc, &choice, 0, 0, Level::Conditional))
+    report(
+        rt,
+        "a - b - c",
+        trial(alloc, &difference, 0, 0, Level::Comma),
+    ) && report(rt, "its end", trial(alloc, &difference, 2, 0, Level::Comma))
+        && report(
+            rt,
+            "a ? b : c",
+            trial(alloc, &choice, 0, 0, Level::Conditional),
+        )
         && report(rt, "(int) a", trial(alloc, &cast, 0, 0, Level::Comma))
         && report(rt, "(a) b", trial(alloc, &inside, 0, 127, Level::Comma))
         && report(rt, "1 1", trial(alloc, &[ONE, ONE], 0, 0, Level::Comma))
@@ -148,13 +155,20 @@ fn whole(rt: &HostRuntime, alloc: Global) -> bool {
 fn levels(rt: &HostRuntime, alloc: Global) -> bool {
     let sequence = [A, COMMA, B];
     report(rt, "a, b", trial(alloc, &sequence, 0, 0, Level::Comma))
-        && report(rt, "without its comma", trial(alloc, &sequence, 0, 0, Level::Assignment))
+        && report(
+            rt,
+            "without its comma",
+            trial(alloc, &sequence, 0, 0, Level::Assignment),
+        )
 }
 
 fn refused(rt: &HostRuntime, alloc: Global) -> bool {
     let deep = [A, MINUS, OPEN, B];
-    report(rt, "a - :", trial(alloc, &[A, MINUS, COLON], 0, 0, Level::Comma))
-        && report(rt, "too deep", trial(alloc, &deep, 0, 128, Level::Comma))
+    report(
+        rt,
+        "a - :",
+        trial(alloc, &[A, MINUS, COLON], 0, 0, Level::Comma),
+    ) && report(rt, "too deep", trial(alloc, &deep, 0, 128, Level::Comma))
         && report(rt, "a -", trial(alloc, &[A, MINUS], 0, 0, Level::Comma))
 }
 

@@ -95,4 +95,3 @@ too_deep used t b e =
         let o = opened_behind used t (begun r ks w) in
         let same : To r ks ≡ To o.run o.stack = sym w ∙ comes_to (used ++ (t ∷ [])) o.run o.stack o.behind in
         exceeding o.run o.stack o.behind (ap exceeds (sym same) ∙ ap exceeds (sym h) ∙ d)
-

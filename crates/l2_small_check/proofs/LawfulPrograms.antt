@@ -1,6 +1,6 @@
 -- The programs of units are lawful.
 use Rattle.std.proofs.Common.{◌≡◌, ℕ, zero, suc, ◌+◌, ◌<◌, ◌≤◌, Bool, true, false, if◌then◌else◌, ℤ, List, [], ◌∷◌, ◌++◌, length, map, Option, Some, None, inl, inr, refl, ap, sym, ◌∙◌, subst, arith, append-nil, append_assoc}
-use Rattle.std.specs.Prelude.{codes, option_map, ◌==◌, ◌||◌, nat_lt, slice_get}
+use Rattle.std.specs.Prelude.{Result, Ok, Err, IfOk, codes, option_map, ◌==◌, ◌||◌, nat_lt, slice_get}
 use Rattle.std.proofs.Math.Seq.{get_or-append_seam, take-append_seam, take-length}
 use Rattle.std.proofs.lemmas.List.{length-append}
 use Rattle.std.specs.Str.{bytes_eq}
@@ -24,7 +24,8 @@ use Rattle.l2_program.specs.Checked as checked
 use Rattle.l2_program.specs.Checked.{TypedTree, CheckedTree, CheckedTrees}
 use Rattle.l2_program.specs.Types.{type_of, given, is_computing, is_arithmetic}
 use Rattle.l2_program.specs.Names.{checks_of, unless_none, declared_in, all_declared_in, loops_in, all_loops_in, checks_in, all_checks_in}
-use Rattle.l2_program.specs.Programs.{ProgramTree, FunctionTree}
+use Rattle.l2_program.specs.declared.program.Program.{Program}
+use Rattle.l2_program.specs.Programs.{ProgramTree, FunctionTree, program_tree}
 use Rattle.l2_meaning.specs.Execution.{known_cells, cells_of, main_among}
 use Rattle.l2_meaning.specs.Lawful.{IsIn, IsScalar, IsTyped, IsTypedStatement, AreTyped, Listing, IsOfKind, HasChecks, StatementHasChecks, HaveChecks, IsScoped, IsScopedStatement, AreScoped, behind, is_static_object, statics_of, main_result, IsSome, IsLawfulFunction, IsLawful, HoldObject, HoldStatics, HaveCells, cell_count}
 use Rattle.l2_small.specs.SmallForm.{and_then}
@@ -38,7 +39,7 @@ use Rattle.l2_small_check.proofs.Spelt.{Begins, at_last, Grows, grows_not, grows
 -- ---- numbers of the items of lists
 
 numbers_more : {A : Type 0} (f : A → Bool) (n : ℕ) (xs : List A) (x : A) → f x ≡ true → numbers_where f n (xs ++ x ∷ []) ≡ numbers_where f n xs ++ (length xs + n) ∷ []
-numbers_more f n [] x e = ap (λ b. if b then n ∷ [] else []) e
+numbers_more f n [] x e = let z : n ≡ 0 + n = omega arith in ap (λ b. if b then n ∷ [] else []) e ∙ ap (λ k. k ∷ []) z
 numbers_more f n (y ∷ xs) x e = go (f y) (numbers_more f (suc n) xs x e) where
   go : (b : Bool) → numbers_where f (suc n) (xs ++ x ∷ []) ≡ numbers_where f (suc n) xs ++ (length xs + suc n) ∷ [] →
       (if b then n ∷ numbers_where f (suc n) (xs ++ x ∷ []) else numbers_where f (suc n) (xs ++ x ∷ [])) ≡ (if b then n ∷ numbers_where f (suc n) xs else numbers_where f (suc n) xs) ++ (length (y ∷ xs) + n) ∷ []
@@ -55,10 +56,10 @@ abbrev is_any : CheckInfo → Bool
 is_any c = true
 
 -- what an item adds to the lists
-record Adds (found later : Found) (declared loops checks : List ℕ) : Type 0 where
-  objects : numbers_where is_mains 1 later.objects ≡ numbers_where is_mains 1 found.objects ++ declared
-  loops : numbers_where is_mains_loop 1 later.loops ≡ numbers_where is_mains_loop 1 found.loops ++ loops
-  checks : numbers_where is_any 1 later.checks ≡ numbers_where is_any 1 found.checks ++ checks
+record Adds (found later : Found) (d l k : List ℕ) : Type 0 where
+  objects : numbers_where is_mains 1 later.objects ≡ numbers_where is_mains 1 found.objects ++ d
+  loops : numbers_where is_mains_loop 1 later.loops ≡ numbers_where is_mains_loop 1 found.loops ++ l
+  checks : numbers_where is_any 1 later.checks ≡ numbers_where is_any 1 found.checks ++ k
 
 adds_nothing : (a : Found) → Adds a a [] [] []
 adds_nothing a = record { objects = sym (append-nil _); loops = sym (append-nil _); checks = sym (append-nil _) }
@@ -93,12 +94,12 @@ mains_more (x ∷ ls) l e (a, r) = (a, mains_more ls l e r)
 
 known_int : (os : List ObjectInfo) (i : ℕ) → AreInts os → IsSome (slice_get os i) → known_cells (slice_get os i) ≡ int_cell ∷ []
 known_int [] i h k = absurd k
-known_int (o ∷ os) zero (a, r) k = a
+known_int (o ∷ os) zero (a, b, c, r) k = a
 known_int (o ∷ os) (suc i) (a, b, c, r) k = known_int os i r k
 
 not_static : (os : List ObjectInfo) (i : ℕ) → AreInts os → is_static_object (slice_get os i) ≡ false
 not_static [] i h = refl
-not_static (o ∷ os) zero (a, b, r) = b
+not_static (o ∷ os) zero (a, b, c, r) = b
 not_static (o ∷ os) (suc i) (a, b, c, r) = not_static os i r
 
 known_main : (os : List ObjectInfo) (i : ℕ) (o : ObjectInfo) → AreInts os → slice_get os i ≡ Some o → o.function ≡ 1
@@ -146,7 +147,7 @@ no_checks scope (small.Binary op e d) = go (typed scope e) (typed scope d) (no_c
   go (Some t) None h k = tt
   go (Some t) (Some u) h k = ap (λ ns. ns ++ checks_of u ++ []) h ∙ ap (λ ns. ns ++ []) k
 
-some_number : (n : ℕ) → n + 1 ∷ [] ≡ unless_none (n + 1)
+some_number : (n : ℕ) → (n + 1) ∷ [] ≡ unless_none (n + 1)
 some_number n = let e : suc n ≡ n + 1 = omega arith in subst (λ k. k ∷ [] ≡ unless_none k) e refl
 
 -- ---- items at the end of a list
@@ -265,8 +266,8 @@ module _ (p : ProgramTree) (ints : AreInts p.objects) where
   record Fine (scope : Scope) (found later : Found) (d l k : List ℕ) (Good : Type 0) : Type 0 where
     grows : Grows found later
     adds : Adds found later d l k
-    ints : AreInts found.objects → AreInts later.objects
-    mains : AreMains found.loops → AreMains later.loops
+    more_ints : AreInts found.objects → AreInts later.objects
+    more_mains : AreMains found.loops → AreMains later.loops
     good : Grows later (found_in p) → Known scope → Good
 
   abbrev Good : Scope → CheckedTree → Scope → Type 0
@@ -305,8 +306,8 @@ module _ (p : ProgramTree) (ints : AreInts p.objects) where
     go false = record {
       grows = record { objects = take-append_seam found.objects (variable n q ∷ []); loops = take-length found.loops; checks = take-length found.checks };
       adds = record { objects = numbers_more is_mains 1 found.objects (variable n q) refl; loops = sym (append-nil _); checks = sym (append-nil _) };
-      ints = ints_more found.objects n q;
-      mains = λ h. h;
+      more_ints = ints_more found.objects n q;
+      more_mains = λ h. h;
       good = λ g k.
           let some : IsSome (at_number p.objects (object_number found)) = subst (λ (x : Option ObjectInfo). IsSome x) (sym (at_last found.objects (variable n q) p.objects g.objects)) tt in
           (known_more scope (record { name = n; object = object_number found }) k some, some, objects_in-end scope (record { name = n; object = object_number found }));
@@ -315,14 +316,20 @@ module _ (p : ProgramTree) (ints : AreInts p.objects) where
   block_fits : (scope : Scope) (found : Found) (x : Option (Elaborated (List CheckedTree))) → FitsAll scope found x → FitsItem scope found (option_map (made block) (within scope x))
   block_fits scope found None h = tt
   block_fits scope found (Some r) h = record {
-    grows = h.grows; adds = h.adds; ints = h.ints; mains = h.mains;
+    grows = h.grows;
+    adds = h.adds;
+    more_ints = h.more_ints;
+    more_mains = h.more_mains;
     good = λ g k. let (kn, ty, ch, sc, be) = h.good g k in (k, ty, ch, sc, refl);
   }
 
   declaration_fits : (scope : Scope) (found : Found) (x : Option (Elaborated ℕ)) → FitsDeclared scope found x → FitsItem scope found (option_map (made checked.Declare) x)
   declaration_fits scope found None h = tt
   declaration_fits scope found (Some d) h = record {
-    grows = h.grows; adds = h.adds; ints = h.ints; mains = h.mains;
+    grows = h.grows;
+    adds = h.adds;
+    more_ints = h.more_ints;
+    more_mains = h.more_mains;
     good = λ g k. let (kn, some, seam) = h.good g k in (kn, tt, tt, statics_known d.tree, sym seam);
   }
 
@@ -335,8 +342,8 @@ module _ (p : ProgramTree) (ints : AreInts p.objects) where
     go (Some t) v none = record {
       grows = h.grows;
       adds = subst (λ ks. Adds found d.found (d.tree ∷ []) [] ks) (sym none) h.adds;
-      ints = h.ints;
-      mains = h.mains;
+      more_ints = h.more_ints;
+      more_mains = h.more_mains;
       good = λ g k.
           let (kn, some, seam) = h.good g k in
           let w = v kn in
@@ -350,8 +357,8 @@ module _ (p : ProgramTree) (ints : AreInts p.objects) where
   assign_fits scope found (Some o) (Some t) l v none = record {
     grows = grows_not found;
     adds = subst (λ ks. Adds found found [] [] ks) (sym none) (adds_nothing found);
-    ints = λ h. h;
-    mains = λ h. h;
+    more_ints = λ h. h;
+    more_mains = λ h. h;
     good = λ g k. let w = v k in (k, (cells_known o (l k).0, w.typed, w.int), w.checks, (inr (l k).1, w.scoped), refl);
   }
 
@@ -365,8 +372,8 @@ module _ (p : ProgramTree) (ints : AreInts p.objects) where
   if_fits scope found (Some t) (Some r) v none h = record {
     grows = h.grows;
     adds = subst (λ ks. Adds found r.found (declared_in r.tree) (loops_in r.tree) (ks ++ checks_in r.tree)) (sym none) h.adds;
-    ints = h.ints;
-    mains = h.mains;
+    more_ints = h.more_ints;
+    more_mains = h.more_mains;
     good = λ g k. let (kn, ty, ch, sc, be) = h.good g k in let w = v k in (k, (w.typed, scalar scope t w, ty), (w.checks, ch), (w.scoped, sc), refl);
   }
 
@@ -382,8 +389,8 @@ module _ (p : ProgramTree) (ints : AreInts p.objects) where
       grows = grows_trans found r.found q.found h.grows j.grows;
       adds = subst (λ ks. Adds found q.found (declared_in r.tree ++ declared_in q.tree) (loops_in r.tree ++ loops_in q.tree) (ks ++ checks_in r.tree ++ checks_in q.tree)) (sym none)
           (adds_both found r.found q.found (declared_in r.tree) (loops_in r.tree) (checks_in r.tree) (declared_in q.tree) (loops_in q.tree) (checks_in q.tree) h.adds j.adds);
-      ints = λ a. j.ints (h.ints a);
-      mains = λ a. j.mains (h.mains a);
+      more_ints = λ a. j.more_ints (h.more_ints a);
+      more_mains = λ a. j.more_mains (h.more_mains a);
       good = λ g k.
           let (kn, ty, ch, sc, be) = h.good (grows_trans r.found q.found (found_in p) j.grows g) k in
           let (kn2, ty2, ch2, sc2, be2) = j.good g k in
@@ -403,8 +410,8 @@ module _ (p : ProgramTree) (ints : AreInts p.objects) where
         grows = grows_trans found (with_loop found q) r.found more h.grows;
         adds = subst (λ ks. Adds found r.found (declared_in r.tree) (loop_number found ∷ loops_in r.tree) (ks ++ checks_in r.tree)) (sym none)
             (adds_both found (with_loop found q) r.found [] (loop_number found ∷ []) [] (declared_in r.tree) (loops_in r.tree) (checks_in r.tree) first h.adds);
-        ints = h.ints;
-        mains = λ a. h.mains (mains_more found.loops info refl a);
+        more_ints = h.more_ints;
+        more_mains = λ a. h.more_mains (mains_more found.loops info refl a);
         good = λ g k. let (kn, ty, ch, sc, be) = h.good g k in let w = v k in (k, (w.typed, scalar scope t w, ty), (w.checks, ch), (w.scoped, sc), refl);
       }
 
@@ -417,8 +424,8 @@ module _ (p : ProgramTree) (ints : AreInts p.objects) where
       record {
         grows = record { objects = take-length found.objects; loops = take-length found.loops; checks = take-append_seam found.checks _ };
         adds = record { objects = sym (append-nil _); loops = sym (append-nil _); checks = numbers_more is_any 1 found.checks info refl ∙ ap (λ ks. numbers_where is_any 1 found.checks ++ ks) (numbered ∙ ap (λ ks. ks ++ unless_none (check_number found)) (sym none)) };
-        ints = λ a. a;
-        mains = λ a. a;
+        more_ints = λ a. a;
+        more_mains = λ a. a;
         good = λ g k.
             let w = v k in
             (k, (w.typed, scalar scope t w), (w.checks, subst (λ (x : Option CheckInfo). IsOfKind Assertion x) (sym (at_last found.checks info p.checks g.checks)) refl), w.scoped, refl);
@@ -429,8 +436,8 @@ module _ (p : ProgramTree) (ints : AreInts p.objects) where
   return_fits scope found (Some t) v none = record {
     grows = grows_not found;
     adds = subst (λ ks. Adds found found [] [] ks) (sym none) (adds_nothing found);
-    ints = λ h. h;
-    mains = λ h. h;
+    more_ints = λ h. h;
+    more_mains = λ h. h;
     good = λ g k. let w = v k in (k, (w.typed, w.int), w.checks, w.scoped, refl);
   }
 
@@ -457,14 +464,17 @@ module _ (p : ProgramTree) (ints : AreInts p.objects) where
       grows = grows_trans found r.found q.found h.grows j.grows;
       adds = as_adds found q.found _ _ _ _ _ _ (all_declared_end r.tree q.tree) (all_loops_end r.tree q.tree) (all_checks_end r.tree q.tree)
           (adds_both found r.found q.found (all_declared_in (chain r.tree)) (all_loops_in (chain r.tree)) (all_checks_in (chain r.tree)) (declared_in q.tree) (loops_in q.tree) (checks_in q.tree) h.adds j.adds);
-      ints = λ a. j.ints (h.ints a);
-      mains = λ a. j.mains (h.mains a);
+      more_ints = λ a. j.more_ints (h.more_ints a);
+      more_mains = λ a. j.more_mains (h.more_mains a);
       good = λ g k.
           let (kn, ty, ch, sc, be) = h.good (grows_trans r.found q.found (found_in p) j.grows g) k in
-          let (kn2, ty2, ch2, sc2, be2) = j.good g kn in
-          (kn2, typed_end r.tree q.tree ty ty2, checks_end r.tree q.tree ch ch2,
+          let (kn2, ty2, ch2, sc2, be2) = j.good g kn in (
+            kn2,
+            typed_end r.tree q.tree ty ty2,
+            checks_end r.tree q.tree ch ch2,
             scoped_end (objects_in scope) r.tree q.tree sc (subst (λ ns. IsScopedStatement (statics_of p) ns q.tree) (sym be) sc2),
-            behind_end (objects_in scope) r.tree q.tree ∙ ap (λ ns. behind ns q.tree) be ∙ be2);
+            behind_end (objects_in scope) r.tree q.tree ∙ ap (λ ns. behind ns q.tree) be ∙ be2,
+          );
     }
 
   mutual
@@ -482,7 +492,7 @@ module _ (p : ProgramTree) (ints : AreInts p.objects) where
     item_fits scope found (small.Return e) = return_fits scope found (typed scope e) (value_fits scope e) (no_checks scope e)
 
     items_fit : (scope : Scope) (found : Found) (all : SmallStmtTrees) → FitsAll scope found (items scope found all)
-    items_fit scope found small.none = record { grows = grows_not found; adds = adds_nothing found; ints = λ h. h; mains = λ h. h; good = λ g k. (k, tt, tt, tt, refl) }
+    items_fit scope found small.none = record { grows = grows_not found; adds = adds_nothing found; more_ints = λ h. h; more_mains = λ h. h; good = λ g k. (k, tt, tt, tt, refl) }
     items_fit scope found (small.also all s) = also_fits s scope found (items scope found all) (items_fit scope found all) (λ there later. item_fits there later s)
 
 -- ---- programs
@@ -509,15 +519,15 @@ in_numbers (x ∷ xs) n (suc i) h =
     let e : i + suc n ≡ suc i + n = omega arith in
     inr (subst (λ k. IsIn k (numbers_where is_any (suc n) xs)) e (in_numbers xs (suc n) i h))
 
-nothing : ProgramTree
+abbrev nothing : ProgramTree
 nothing = record { objects = []; functions = []; loops = []; checks = []; names = []; static_values = []; thresholds = [] }
 
 lawful_with : (u : SmallUnitTree) (r : Elaborated (List CheckedTree)) → items [] nothing_found u.items ≡ Some r → length r.found.objects ≤ most_cells → IsLawful (program_with u r)
 lawful_with u r e few = made_lawful (subst (λ x. FitsAll nothing tt [] nothing_found x) e (items_fit nothing tt [] nothing_found u.items)) where
   made_lawful : FitsAll nothing tt [] nothing_found (Some r) → IsLawful (program_with u r)
   made_lawful first =
-      let ints = first.ints tt in
-      let mains = first.mains tt in
+      let ints = first.more_ints tt in
+      let mains = first.more_mains tt in
       let fine : FitsAll (program_with u r) ints [] nothing_found (Some r) = subst (λ x. FitsAll (program_with u r) ints [] nothing_found x) e (items_fit (program_with u r) ints [] nothing_found u.items) in
       let (kn, ty, ch, sc, be) = fine.good (grows_not r.found) tt in
       let counted = cells_counted r.found.objects ints in
@@ -566,3 +576,7 @@ program_lawful u p e = go (items [] nothing_found u.items) refl e where
   go (Some r) is e =
       let q : program_with u r ≡ p = cc in
       subst IsLawful q (lawful_with u r is (few_objects u (program_with u r) (ap (option_map (program_with u)) is)))
+
+pub lawful_ok : {E : Type 0} (u : SmallUnitTree) (r : Result Program E) → IfOk r (λ p. program_of u ≡ Some (program_tree p)) → IfOk r (λ p. IsLawful (program_tree p))
+lawful_ok u (Ok p) h = program_lawful u (program_tree p) h
+lawful_ok u (Err e) h = tt

@@ -35,6 +35,7 @@ pub fn names_of(e: &Typed, names: &mut Vec<u32>) -> Result<(), CheckError>
 
 /// Puts the objects that a statement names behind these names.
 #[cycle(names)]
+#[tactic(auto, using(crate::proofs::Steps::steps))]
 pub fn names_in(s: &Checked, names: &mut Vec<u32>) -> Result<(), CheckError>
     ensures ok { IfOk result (λ u. names.new.items ≡ names.old.items ++ names_in (checked_tree s.now)) }
     ensures err { IfErr result (λ f. f ≡ NoMemory) }

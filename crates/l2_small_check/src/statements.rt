@@ -9,8 +9,8 @@ use crate::error::CheckError;
 use crate::expressions::typed;
 use crate::make::{assertion, assignment, if_else, if_then, while_loop};
 use crate::table::Table;
-use l2_small::{SmallExpr, SmallStmt};
 use l2_program::Checked;
+use l2_small::{SmallExpr, SmallStmt};
 use l2_syntax::Place;
 use std::alloc::Global;
 

@@ -5,6 +5,7 @@ ghost use Rattle.l2_runs.specs.declared.cells.CellType.TheVariants.{Integer};
 ghost use Rattle.l2_small.specs.SmallTrees.{none, small_unit_tree};
 ghost use Rattle.l2_program.specs.Checked.{checked_tree};
 ghost use Rattle.l2_program.specs.Programs.{function_tree, program_tree};
+ghost use Rattle.l2_meaning.specs.Lawful.{IsLawful};
 ghost use Rattle.l2_small_check.specs.Elaboration.{program_of, program_with, main_name, block, stays};
 ghost use Rattle.l2_small_check.specs.Founds.{found_of};
 ghost use Rattle.l2_small_check.specs.declared.error.CheckError.TheVariants.{NoMemory};
@@ -14,17 +15,26 @@ use crate::found::Found;
 use crate::statements::items;
 use crate::table::{Table, number};
 use l2_bits::{List, Ty};
-use l2_small::SmallUnit;
 use l2_program::{Checked, FunctionInfo, Program};
 use l2_runs::CellType;
+use l2_small::SmallUnit;
 use l2_syntax::{Name, Place};
 use std::alloc::Global;
 
 /// The program of a unit of the small form: names stand for the objects that are in scope (C11 6.2.1), and objects, loops
 /// and checks are numbered from 1 in the order of the text. Its one function is `main`, whose name stands behind the
 /// unit's names. More loops, checks or names than a `u32` counts are want of memory.
-#[tactic(auto, using(crate::proofs::Steps::steps))]
 pub fn check(alloc: Global, unit: SmallUnit) -> Result<Program, CheckError>
+    ensures ok { IfOk result (λ p. program_of (small_unit_tree unit) ≡ Some (program_tree p)) }
+    ensures not_small { IsErrOf result CheckError.NotSmall → program_of (small_unit_tree unit) ≡ None }
+    ensures lawful { IfOk result (λ p. IsLawful (program_tree p)) }
+{
+    program_of(alloc, unit)
+}
+
+/// The program of a unit.
+#[tactic(auto, using(crate::proofs::Steps::steps))]
+fn program_of(alloc: Global, unit: SmallUnit) -> Result<Program, CheckError>
     ensures ok { IfOk result (λ p. program_of (small_unit_tree unit) ≡ Some (program_tree p)) }
     ensures not_small { IsErrOf result CheckError.NotSmall → program_of (small_unit_tree unit) ≡ None }
 {

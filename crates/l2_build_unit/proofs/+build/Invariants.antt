@@ -79,4 +79,3 @@ decreases-loops::for_body l = 16 * size_of l.parts.now
 
 abbrev pub decreases-loops::labelled_by : goal.decreases-loops::labelled_by
 decreases-loops::labelled_by l = 16 * (1 + size_of l.inner.now + size_of l.parts.now)
-
