@@ -1,14 +1,14 @@
 // Statements without others in them.
-ghost use Rattle.std.specs.Prelude.{◌≡◌, ◌≢◌, ◌≤◌, IfOk, IfErr, None, Some};
-ghost use Rattle.l2_tree.specs.Build.{before_semicolon as before_semicolon_so, plain_stmt as as_plain, evaluated as evaluated_so, returns as returns_so, perhaps_until as perhaps_so, first as first_so, do_while as do_while_so, semicolon as semicolon_so, first_of as first_of_so};
+ghost use Rattle.std.specs.Prelude.{◌≡◌, ◌≢◌, ◌≤◌, ◌∷◌, IfOk, IfErr, None, Some};
+ghost use Rattle.l2_tree.specs.Build.{leaf, node, built, before_semicolon as before_semicolon_so, plain_stmt as as_plain, evaluated as evaluated_so, returns as returns_so, perhaps_until as perhaps_so, first as first_so, do_while as do_while_so, semicolon as semicolon_so, first_of as first_of_so};
 ghost use Rattle.l2_tree.specs.Units.{stmt_tree, first_tree, perhaps_tree};
 ghost use Rattle.l2_build.specs.Parts.{parts_of, size_of};
-ghost use Rattle.l2_build_unit.specs.Statements.{perhaps_parts};
+ghost use Rattle.l2_build_unit.specs.Statements.{perhaps_parts, first_expression};
 
 use l2_build::{BuildError, Next, declaration_of, expr_of, specifies, split};
 use l2_networks::is;
 use l2_reader::Syntax;
-use l2_syntax::{Mark, Place};
+use l2_syntax::{Mark, Place, Token};
 use l2_tree::{Expr, First, Stmt};
 use std::alloc::Global;
 
@@ -108,6 +108,69 @@ pub fn returns(alloc: Global, place: Place, parts: &[Syntax]) -> Result<Box<Stmt
     }
 }
 
+/// A `do` with all its parts, if its marks are such and nothing is left.
+fn do_with(
+    alloc: Global,
+    place: Place,
+    body: Box<Stmt>,
+    word: Token,
+    bracket: Token,
+    inner: &[Syntax],
+    close: Token,
+    end: Token,
+    last: &[Syntax],
+) -> Result<Box<Stmt>, BuildError>
+    ensures ok { IfOk result (λ t. do_while_so place (stmt_tree body.value) (leaf word.kind word.place ∷ leaf bracket.kind bracket.place ∷ node (built (parts_of inner.now)) ∷ leaf close.kind close.place ∷ leaf end.kind end.place ∷ parts_of last.now) ≡ Some (stmt_tree t.value)) }
+    ensures err { IfErr result (λ e. e ≢ BuildError.NoMemory → do_while_so place (stmt_tree body.value) (leaf word.kind word.place ∷ leaf bracket.kind bracket.place ∷ node (built (parts_of inner.now)) ∷ leaf close.kind close.place ∷ leaf end.kind end.place ∷ parts_of last.now) ≡ None) }
+{
+    if !is(Mark::While, word.kind) {
+        return Err(BuildError::Misfit);
+    }
+    if !is(Mark::OpenParenthesis, bracket.kind) {
+        return Err(BuildError::Misfit);
+    }
+    if !is(Mark::CloseParenthesis, close.kind) {
+        return Err(BuildError::Misfit);
+    }
+    if !is(Mark::Semicolon, end.kind) {
+        return Err(BuildError::Misfit);
+    }
+    let test = expr_of(alloc, inner)?;
+    let Next::End = split(last) else {
+        return Err(BuildError::Misfit);
+    };
+    let whole = Box::new(
+        alloc,
+        Stmt::Do(place, body, word.place, bracket.place, test),
+    )?;
+    Ok(whole)
+}
+
+/// A `do`, behind its test.
+fn do_test(
+    alloc: Global,
+    place: Place,
+    body: Box<Stmt>,
+    word: Token,
+    bracket: Token,
+    inner: &[Syntax],
+    parts: &[Syntax],
+) -> Result<Box<Stmt>, BuildError>
+    ensures ok { IfOk result (λ t. do_while_so place (stmt_tree body.value) (leaf word.kind word.place ∷ leaf bracket.kind bracket.place ∷ node (built (parts_of inner.now)) ∷ parts_of parts.now) ≡ Some (stmt_tree t.value)) }
+    ensures err { IfErr result (λ e. e ≢ BuildError.NoMemory → do_while_so place (stmt_tree body.value) (leaf word.kind word.place ∷ leaf bracket.kind bracket.place ∷ node (built (parts_of inner.now)) ∷ parts_of parts.now) ≡ None) }
+{
+    let Next::Leaf(close, behind) = split(parts) else {
+        return Err(BuildError::Misfit);
+    };
+    let Next::Leaf(semicolon, last) = split(behind) else {
+        return Err(BuildError::Misfit);
+    };
+    let whole = do_with(
+        alloc, place, body, word, bracket, inner, close, semicolon, last,
+    )?;
+    Ok(whole)
+}
+
 /// Behind `do` and its statement.
 pub fn do_while(
     alloc: Global,
@@ -124,27 +187,10 @@ pub fn do_while(
     let Next::Leaf(bracket, behind_bracket) = split(behind_word) else {
         return Err(BuildError::Misfit);
     };
-    let Next::Node(inner, behind_test) = split(behind_bracket) else {
+    let Next::Node(inner, rest) = split(behind_bracket) else {
         return Err(BuildError::Misfit);
     };
-    let Next::Leaf(close, behind_close) = split(behind_test) else {
-        return Err(BuildError::Misfit);
-    };
-    let Next::Leaf(semicolon, last) = split(behind_close) else {
-        return Err(BuildError::Misfit);
-    };
-    let Next::End = split(last) else {
-        return Err(BuildError::Misfit);
-    };
-    if !(is(Mark::While, word.kind)
-        && is(Mark::OpenParenthesis, bracket.kind)
-        && is(Mark::CloseParenthesis, close.kind)
-        && is(Mark::Semicolon, semicolon.kind))
-    {
-        return Err(BuildError::Misfit);
-    }
-    let test = expr_of(alloc, inner)?;
-    let whole = Box::new(alloc, Stmt::Do(place, body, word.place, bracket.place, test))?;
+    let whole = do_test(alloc, place, body, word, bracket, inner, rest)?;
     Ok(whole)
 }
 
@@ -192,24 +238,40 @@ fn first_of(value: Option<Box<Expr>>) -> First
     }
 }
 
-/// The first part of a `for`, with its semicolon.
-pub fn started<'a>(alloc: Global, parts: &'a [Syntax]) -> Result<Started<'a>, BuildError>
-    ensures ok { IfOk result (λ r. first_so (parts_of parts.now) ≡ Some (first_tree r.first, parts_of r.rest.now)) }
+/// Perhaps an expression as the first part of a `for`, with its semicolon.
+fn first_plain<'a>(alloc: Global, parts: &'a [Syntax]) -> Result<Started<'a>, BuildError>
+    ensures ok { IfOk result (λ r. first_expression (parts_of parts.now) ≡ Some (first_tree r.first, parts_of r.rest.now)) }
     ensures less { IfOk result (λ r. size_of r.rest.now ≤ size_of parts.now) }
-    ensures err { IfErr result (λ e. e ≢ BuildError.NoMemory → first_so (parts_of parts.now) ≡ None) }
+    ensures err { IfErr result (λ e. e ≢ BuildError.NoMemory → first_expression (parts_of parts.now) ≡ None) }
 {
-    if let Next::Node(inner, rest) = split(parts) {
-        if specifies(inner) {
-            let declaration = declaration_of(alloc, inner)?;
-            return Ok(Started {
-                first: First::Declaration(Box::into_inner(declaration)),
-                rest,
-            });
-        }
-    }
     let Perhaps { value, rest } = perhaps_until(alloc, Mark::Semicolon, parts)?;
     Ok(Started {
         first: first_of(value),
         rest,
     })
+}
+
+/// The first part of a `for`, with its semicolon.
+pub fn first_part<'a>(alloc: Global, parts: &'a [Syntax]) -> Result<Started<'a>, BuildError>
+    ensures ok { IfOk result (λ r. first_so (parts_of parts.now) ≡ Some (first_tree r.first, parts_of r.rest.now)) }
+    ensures less { IfOk result (λ r. size_of r.rest.now ≤ size_of parts.now) }
+    ensures err { IfErr result (λ e. e ≢ BuildError.NoMemory → first_so (parts_of parts.now) ≡ None) }
+{
+    match split(parts) {
+        Next::Node(inner, rest) => {
+            if !specifies(inner) {
+                let plain = first_plain(alloc, parts)?;
+                return Ok(plain);
+            }
+            let declaration = declaration_of(alloc, inner)?;
+            Ok(Started {
+                first: First::Declaration(Box::into_inner(declaration)),
+                rest,
+            })
+        }
+        Next::Leaf(_, _) | Next::End => {
+            let plain = first_plain(alloc, parts)?;
+            Ok(plain)
+        }
+    }
 }

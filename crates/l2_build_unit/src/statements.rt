@@ -5,7 +5,7 @@ ghost use Rattle.l2_tree.specs.Trees.{no_stmts};
 ghost use Rattle.l2_tree.specs.Units.{stmt_tree, stmts_onto};
 ghost use Rattle.l2_build.specs.Parts.{parts_of};
 
-use crate::branches::{branches, switch, while_loop};
+use crate::branches::{choice, switch, while_loop};
 use crate::loops::{case_of, do_loop, for_loop, labelled};
 use crate::made::block;
 use crate::plain::{ended, plain_stmt, returns};
@@ -96,7 +96,7 @@ fn led(
     match leader {
         Leader::Block => block_of(alloc, place, parts),
         Leader::Empty => empty(alloc, place, parts),
-        Leader::If => branches(alloc, place, parts),
+        Leader::If => choice(alloc, place, parts),
         Leader::While => while_loop(alloc, place, parts),
         Leader::Switch => switch(alloc, place, parts),
         Leader::Do => do_loop(alloc, place, parts),

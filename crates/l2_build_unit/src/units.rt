@@ -1,7 +1,7 @@
 // The externals of a text.
-ghost use Rattle.std.specs.Prelude.{◌≡◌, ◌≢◌, map, IfOk, IfErr, None, Some};
-ghost use Rattle.l2_tree.specs.Build.{external_of as as_external, external_behind as external_so, declared as declared_so, and_then, unit_of as as_unit};
-ghost use Rattle.l2_tree.specs.Trees.{Global as global_tree};
+ghost use Rattle.std.specs.Prelude.{◌≡◌, ◌≢◌, ◌∷◌, map, IfOk, IfErr, None, Some};
+ghost use Rattle.l2_tree.specs.Build.{node, built, declarator_of as as_declarator, items as items_so, external_of as as_external, external_behind as external_so, declared as declared_so, and_then, unit_of as as_unit};
+ghost use Rattle.l2_tree.specs.Trees.{Global as global_tree, Function as function_tree, no_stmts};
 ghost use Rattle.l2_tree.specs.Units.{external_tree, specifiers_tree};
 ghost use Rattle.l2_build.specs.Parts.{parts_of};
 
@@ -12,12 +12,12 @@ use l2_build::{
 };
 use l2_networks::is;
 use l2_reader::Syntax;
-use l2_syntax::Mark;
+use l2_syntax::{Mark, Place};
 use l2_tree::{External, Specifiers};
 use std::alloc::Global;
 
 /// A declaration at file scope, behind its specifiers.
-fn global(
+fn global_declaration(
     alloc: Global,
     specifiers: Specifiers,
     parts: &[Syntax],
@@ -30,6 +30,54 @@ fn global(
     Ok(whole)
 }
 
+/// A function's definition, behind its brace.
+fn function(
+    alloc: Global,
+    specifiers: Specifiers,
+    inner: &[Syntax],
+    brace: Place,
+    body: &[Syntax],
+) -> Result<Box<External>, BuildError>
+    ensures ok { IfOk result (λ x. and_then (as_declarator (parts_of inner.now)) (λ d. and_then (items_so no_stmts (parts_of body.now)) (λ ss. Some (function_tree (specifiers_tree specifiers) d brace ss))) ≡ Some (external_tree x.value)) }
+    ensures err { IfErr result (λ e. e ≢ BuildError.NoMemory → and_then (as_declarator (parts_of inner.now)) (λ d. and_then (items_so no_stmts (parts_of body.now)) (λ ss. Some (function_tree (specifiers_tree specifiers) d brace ss))) ≡ None) }
+{
+    let declarator = declarator_of(alloc, inner)?;
+    let all = items(alloc, body)?;
+    let whole = Box::new(
+        alloc,
+        External::Function(specifiers, Box::into_inner(declarator), brace, all),
+    )?;
+    Ok(whole)
+}
+
+/// A function's definition or a declaration, where a declarator stands behind the specifiers.
+fn defined_or(
+    alloc: Global,
+    specifiers: Specifiers,
+    inner: &[Syntax],
+    behind: &[Syntax],
+    parts: &[Syntax],
+) -> Result<Box<External>, BuildError>
+    requires { parts_of parts.now ≡ node (built (parts_of inner.now)) ∷ parts_of behind.now }
+    ensures ok { IfOk result (λ x. external_so (specifiers_tree specifiers) (parts_of parts.now) ≡ Some (external_tree x.value)) }
+    ensures err { IfErr result (λ e. e ≢ BuildError.NoMemory → external_so (specifiers_tree specifiers) (parts_of parts.now) ≡ None) }
+{
+    match split(behind) {
+        Next::Leaf(brace, body) => {
+            if is(Mark::OpenBrace, brace.kind) {
+                let whole = function(alloc, specifiers, inner, brace.place, body)?;
+                return Ok(whole);
+            }
+            let whole = global_declaration(alloc, specifiers, parts)?;
+            Ok(whole)
+        }
+        Next::Node(_, _) | Next::End => {
+            let whole = global_declaration(alloc, specifiers, parts)?;
+            Ok(whole)
+        }
+    }
+}
+
 /// A function's definition or a declaration, behind its specifiers.
 fn behind_specifiers(
     alloc: Global,
@@ -39,21 +87,16 @@ fn behind_specifiers(
     ensures ok { IfOk result (λ x. external_so (specifiers_tree specifiers) (parts_of parts.now) ≡ Some (external_tree x.value)) }
     ensures err { IfErr result (λ e. e ≢ BuildError.NoMemory → external_so (specifiers_tree specifiers) (parts_of parts.now) ≡ None) }
 {
-    if let Next::Node(inner, behind) = split(parts) {
-        if let Next::Leaf(brace, body) = split(behind) {
-            if is(Mark::OpenBrace, brace.kind) {
-                let declarator = declarator_of(alloc, inner)?;
-                let all = items(alloc, body)?;
-                let whole = Box::new(
-                    alloc,
-                    External::Function(specifiers, Box::into_inner(declarator), brace.place, all),
-                )?;
-                return Ok(whole);
-            }
+    match split(parts) {
+        Next::Node(inner, behind) => {
+            let whole = defined_or(alloc, specifiers, inner, behind, parts)?;
+            Ok(whole)
+        }
+        Next::Leaf(_, _) | Next::End => {
+            let whole = global_declaration(alloc, specifiers, parts)?;
+            Ok(whole)
         }
     }
-    let whole = global(alloc, specifiers, parts)?;
-    Ok(whole)
 }
 
 /// A part of a text at file scope (C11 6.9), from all parts of its construct. `Misfit` where they are those of none.
