@@ -1,3 +1,5 @@
+pub mod Listed
 pub mod Requests
 pub mod Statuses
 pub mod Texts
+pub mod Unique

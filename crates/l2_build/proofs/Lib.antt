@@ -1,3 +1,4 @@
 pub mod Nodes
 pub mod Tails
 pub mod Cores
+pub mod Goes

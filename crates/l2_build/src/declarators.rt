@@ -1,8 +1,9 @@
 // Declarators.
 ghost use Rattle.std.specs.Prelude.{◌≡◌, ◌≢◌, ◌≤◌, ◌∷◌, [], IfOk, IfErr, None, Some};
-ghost use Rattle.l2_tree.specs.Build.{leaf, built, pointers as pointers_so, core as core_so, group as group_so, suffixes as suffixes_so, array as array_so, parameters as parameters_so, behind_parameter as behind_parameter_so, declarator_of as as_declarator};
-ghost use Rattle.l2_tree.specs.Trees.{SuffixTrees, no_suffixes, and_suffix, no_parameters};
-ghost use Rattle.l2_tree.specs.Units.{declarator_tree, core_tree, suffix_tree, suffixes_onto, parameters_onto};
+ghost use Rattle.l2_tree.specs.Build.{leaf, node, built, next_parameter as next_parameter_so, pointers as pointers_so, core as core_so, group as group_so, suffixes as suffixes_so, array as array_so, parameters as parameters_so, behind_parameter as behind_parameter_so, declarator_of as as_declarator};
+ghost use Rattle.l2_tree.specs.Trees.{SuffixTrees, ParameterTrees, no_suffixes, and_suffix, no_parameters, and_parameter};
+ghost use Rattle.l2_tree.specs.Units.{declarator_tree, core_tree, suffix_tree, suffixes_onto, parameter_tree, parameters_onto};
+ghost use Rattle.l2_syntax.specs.declared.place.Place.{Place as At};
 ghost use Rattle.l2_build.specs.Parts.{parts_of, size_of};
 
 use crate::error::BuildError;
@@ -35,6 +36,13 @@ struct Cored<'a> {
 #[derive(Drop)]
 struct OneSuffix<'a> {
     value: Suffix,
+    rest: &'a [Syntax],
+}
+
+/// A parameter, and the parts behind it.
+#[derive(Drop)]
+struct OneParameter<'a> {
+    value: Box<Parameter>,
     rest: &'a [Syntax],
 }
 
@@ -123,13 +131,34 @@ fn core_of<'a>(alloc: Global, parts: &'a [Syntax]) -> Result<Cored<'a>, BuildErr
     Ok(absent)
 }
 
-/// A length, behind its `[`.
+/// A length, behind its expression.
 #[cycle(build)]
-fn array<'a>(
+fn array_of<'a>(
     alloc: Global,
     place: Place,
+    inner: &[Syntax],
     parts: &'a [Syntax],
 ) -> Result<OneSuffix<'a>, BuildError>
+    ensures ok { IfOk result (λ r. (xs : SuffixTrees) → array_so xs place (node (built (parts_of inner.now)) ∷ parts_of parts.now) ≡ suffixes_so (and_suffix xs (suffix_tree r.value)) (parts_of r.rest.now)) }
+    ensures less { IfOk result (λ r. size_of r.rest.now ≤ size_of parts.now) }
+    ensures err { IfErr result (λ e. e ≢ BuildError.NoMemory → (xs : SuffixTrees) → array_so xs place (node (built (parts_of inner.now)) ∷ parts_of parts.now) ≡ None) }
+{
+    let Next::Leaf(close, rest) = split(parts) else {
+        return Err(BuildError::Misfit);
+    };
+    if !is(Mark::CloseBracket, close.kind) {
+        return Err(BuildError::Misfit);
+    }
+    let length = expr_of(alloc, inner)?;
+    Ok(OneSuffix {
+        value: Suffix::ArrayOf(place, length),
+        rest,
+    })
+}
+
+/// A length, behind its `[`.
+#[cycle(build)]
+fn array<'a>(alloc: Global, place: Place, parts: &'a [Syntax]) -> Result<OneSuffix<'a>, BuildError>
     ensures ok { IfOk result (λ r. (xs : SuffixTrees) → array_so xs place (parts_of parts.now) ≡ suffixes_so (and_suffix xs (suffix_tree r.value)) (parts_of r.rest.now)) }
     ensures less { IfOk result (λ r. size_of r.rest.now ≤ size_of parts.now) }
     ensures err { IfErr result (λ e. e ≢ BuildError.NoMemory → (xs : SuffixTrees) → array_so xs place (parts_of parts.now) ≡ None) }
@@ -145,20 +174,25 @@ fn array<'a>(
             })
         }
         Next::Node(inner, behind) => {
-            let Next::Leaf(close, rest) = split(behind) else {
-                return Err(BuildError::Misfit);
-            };
-            if !is(Mark::CloseBracket, close.kind) {
-                return Err(BuildError::Misfit);
-            }
-            let length = expr_of(alloc, inner)?;
-            Ok(OneSuffix {
-                value: Suffix::ArrayOf(place, length),
-                rest,
-            })
+            let one = array_of(alloc, place, inner, behind)?;
+            Ok(one)
         }
         Next::End => Err(BuildError::Misfit),
     }
+}
+
+/// A further parameter, behind a comma.
+#[cycle(build)]
+fn next_parameter<'a>(alloc: Global, parts: &'a [Syntax]) -> Result<OneParameter<'a>, BuildError>
+    ensures ok { IfOk result (λ r. (xs : SuffixTrees) (p : At) (ts : ParameterTrees) → next_parameter_so xs p ts (parts_of parts.now) ≡ behind_parameter_so xs p (and_parameter ts (parameter_tree r.value.value)) (parts_of r.rest.now)) }
+    ensures less { IfOk result (λ r. size_of r.rest.now ≤ size_of parts.now) }
+    ensures err { IfErr result (λ e. e ≢ BuildError.NoMemory → (xs : SuffixTrees) (p : At) (ts : ParameterTrees) → next_parameter_so xs p ts (parts_of parts.now) ≡ None) }
+{
+    let Next::Node(inner, rest) = split(parts) else {
+        return Err(BuildError::Misfit);
+    };
+    let value = parameter_of(alloc, inner)?;
+    Ok(OneParameter { value, rest })
 }
 
 /// Parameters, behind the first of them.
@@ -190,11 +224,8 @@ fn behind_parameter<'a>(
         if !is(Mark::Comma, mark.kind) {
             return Err(BuildError::Misfit);
         }
-        let Next::Node(inner, rest) = split(behind) else {
-            return Err(BuildError::Misfit);
-        };
-        let next = parameter_of(alloc, inner)?;
-        all.push(Box::into_inner(next))?;
+        let OneParameter { value, rest } = next_parameter(alloc, behind)?;
+        all.push(Box::into_inner(value))?;
         left = rest;
     }
 }

@@ -74,7 +74,10 @@ fn with_size<'a>(
         return Err(BuildError::Misfit);
     };
     if brackets(inner) {
-        let TypeName { place: bracket, named } = type_name_of(alloc, inner)?;
+        let TypeName {
+            place: bracket,
+            named,
+        } = type_name_of(alloc, inner)?;
         let value = Box::new(alloc, Expr::SizeofType(place, bracket, named))?;
         return Ok(Operand { value, rest });
     }
@@ -177,7 +180,10 @@ pub fn expr_of(alloc: Global, parts: &[Syntax]) -> Result<Box<Expr>, BuildError>
     let Some(opening) = opening_of(token.kind) else {
         return Err(BuildError::Misfit);
     };
-    let Operand { value, rest: behind } = opened(alloc, opening, token.place, rest)?;
+    let Operand {
+        value,
+        rest: behind,
+    } = opened(alloc, opening, token.place, rest)?;
     let whole = tail(alloc, value, behind)?;
     Ok(whole)
 }

@@ -35,10 +35,7 @@ pub fn structure(
     ensures ok { IfOk result (λ s. specifier_tree s.value ≡ struct_tree place tag brace (declarations_onto no_declarations members.items)) }
     ensures err { IfErr result (λ f. f ≡ BuildError.NoMemory) }
 {
-    Ok(Box::new(
-        alloc,
-        Specifier::StructBody(place, tag, brace, members),
-    )?)
+    Ok(Box::new(alloc, Specifier::StructBody(place, tag, brace, members))?)
 }
 
 /// An enum with its enumerators.
@@ -106,26 +103,40 @@ pub fn braced(
     Ok(Box::new(alloc, Initialiser::Braced(place, items, comma))?)
 }
 
+fn plain_declared(declarator: Declarator) -> Declared
+    ensures { declared_tree result ≡ uninitialised_tree (declarator_tree declarator) }
+{
+    Declared::Plain(declarator)
+}
+
 /// A declarator without an initialiser.
-pub fn uninitialised(alloc: Global, declarator: Declarator) -> Result<Box<Declared>, BuildError>
-    ensures ok { IfOk result (λ d. declared_tree d.value ≡ uninitialised_tree (declarator_tree declarator)) }
+pub fn uninitialised(
+    alloc: Global,
+    declarator: Box<Declarator>,
+) -> Result<Box<Declared>, BuildError>
+    ensures ok { IfOk result (λ d. declared_tree d.value ≡ uninitialised_tree (declarator_tree declarator.value)) }
     ensures err { IfErr result (λ f. f ≡ BuildError.NoMemory) }
 {
-    Ok(Box::new(alloc, Declared::Plain(declarator))?)
+    let whole = plain_declared(Box::into_inner(declarator));
+    Ok(Box::new(alloc, whole)?)
+}
+
+fn valued_declared(declarator: Declarator, place: Place, value: Initialiser) -> Declared
+    ensures { declared_tree result ≡ initialised_tree (declarator_tree declarator) place (initialiser_tree value) }
+{
+    Declared::Initialised(declarator, place, value)
 }
 
 /// A declarator with an initialiser.
 pub fn initialised(
     alloc: Global,
-    declarator: Declarator,
+    declarator: Box<Declarator>,
     place: Place,
-    value: Initialiser,
+    value: Box<Initialiser>,
 ) -> Result<Box<Declared>, BuildError>
-    ensures ok { IfOk result (λ d. declared_tree d.value ≡ initialised_tree (declarator_tree declarator) place (initialiser_tree value)) }
+    ensures ok { IfOk result (λ d. declared_tree d.value ≡ initialised_tree (declarator_tree declarator.value) place (initialiser_tree value.value)) }
     ensures err { IfErr result (λ f. f ≡ BuildError.NoMemory) }
 {
-    Ok(Box::new(
-        alloc,
-        Declared::Initialised(declarator, place, value),
-    )?)
+    let whole = valued_declared(Box::into_inner(declarator), place, Box::into_inner(value));
+    Ok(Box::new(alloc, whole)?)
 }

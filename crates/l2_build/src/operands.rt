@@ -1,6 +1,6 @@
 // What stands behind an operand.
-ghost use Rattle.std.specs.Prelude.{◌≡◌, ◌≢◌, ◌≤◌, IfOk, IfErr, None, Some};
-ghost use Rattle.l2_tree.specs.Build.{tail as tail_of, continued as goes_on, arguments as arguments_of};
+ghost use Rattle.std.specs.Prelude.{◌≡◌, ◌≢◌, ◌≤◌, ◌∷◌, IfOk, IfErr, None, Some};
+ghost use Rattle.l2_tree.specs.Build.{tail as tail_of, continued as goes_on, arguments as arguments_of, node, built};
 ghost use Rattle.l2_tree.specs.Trees.{no_exprs};
 ghost use Rattle.l2_tree.specs.Units.{expr_tree, exprs_onto};
 ghost use Rattle.l2_build.specs.Parts.{parts_of, size_of};
@@ -94,6 +94,30 @@ fn with_comma<'a>(
     }
 }
 
+/// Behind a `[` and an index.
+#[cycle(build)]
+fn indexed<'a>(
+    alloc: Global,
+    array: Box<Expr>,
+    place: Place,
+    inner: &[Syntax],
+    parts: &'a [Syntax],
+) -> Result<Operand<'a>, BuildError>
+    ensures ok { IfOk result (λ r. goes_on (Some Continuation.Index) (expr_tree array.value) place (node (built (parts_of inner.now)) ∷ parts_of parts.now) ≡ tail_of (expr_tree r.value.value) (parts_of r.rest.now)) }
+    ensures less { IfOk result (λ r. size_of r.rest.now ≤ size_of parts.now) }
+    ensures err { IfErr result (λ f. f ≢ BuildError.NoMemory → goes_on (Some Continuation.Index) (expr_tree array.value) place (node (built (parts_of inner.now)) ∷ parts_of parts.now) ≡ None) }
+{
+    let Next::Leaf(close, rest) = split(parts) else {
+        return Err(BuildError::Misfit);
+    };
+    if !is(Mark::CloseBracket, close.kind) {
+        return Err(BuildError::Misfit);
+    }
+    let at = expr_of(alloc, inner)?;
+    let value = Box::new(alloc, Expr::Index(array, place, at))?;
+    Ok(Operand { value, rest })
+}
+
 /// Behind a `[`.
 #[cycle(build)]
 fn with_index<'a>(
@@ -106,17 +130,40 @@ fn with_index<'a>(
     ensures less { IfOk result (λ r. size_of r.rest.now ≤ size_of parts.now) }
     ensures err { IfErr result (λ f. f ≢ BuildError.NoMemory → goes_on (Some Continuation.Index) (expr_tree array.value) place (parts_of parts.now) ≡ None) }
 {
-    let Next::Node(inner, behind) = split(parts) else {
+    match split(parts) {
+        Next::Node(inner, behind) => {
+            let whole = indexed(alloc, array, place, inner, behind)?;
+            Ok(whole)
+        }
+        Next::Leaf(_, _) | Next::End => Err(BuildError::Misfit),
+    }
+}
+
+/// Behind a `?` and an expression.
+#[cycle(build)]
+fn chosen<'a>(
+    alloc: Global,
+    test: Box<Expr>,
+    place: Place,
+    inner: &[Syntax],
+    parts: &'a [Syntax],
+) -> Result<Operand<'a>, BuildError>
+    ensures ok { IfOk result (λ r. goes_on (Some Continuation.Conditional) (expr_tree test.value) place (node (built (parts_of inner.now)) ∷ parts_of parts.now) ≡ tail_of (expr_tree r.value.value) (parts_of r.rest.now)) }
+    ensures less { IfOk result (λ r. size_of r.rest.now ≤ size_of parts.now) }
+    ensures err { IfErr result (λ f. f ≢ BuildError.NoMemory → goes_on (Some Continuation.Conditional) (expr_tree test.value) place (node (built (parts_of inner.now)) ∷ parts_of parts.now) ≡ None) }
+{
+    let Next::Leaf(colon, behind) = split(parts) else {
         return Err(BuildError::Misfit);
     };
-    let Next::Leaf(close, rest) = split(behind) else {
+    let Next::Node(last, rest) = split(behind) else {
         return Err(BuildError::Misfit);
     };
-    if !is(Mark::CloseBracket, close.kind) {
+    if !is(Mark::Colon, colon.kind) {
         return Err(BuildError::Misfit);
     }
-    let at = expr_of(alloc, inner)?;
-    let value = Box::new(alloc, Expr::Index(array, place, at))?;
+    let yes = expr_of(alloc, inner)?;
+    let no = expr_of(alloc, last)?;
+    let value = Box::new(alloc, Expr::Conditional(test, place, yes, no))?;
     Ok(Operand { value, rest })
 }
 
@@ -132,22 +179,13 @@ fn with_choice<'a>(
     ensures less { IfOk result (λ r. size_of r.rest.now ≤ size_of parts.now) }
     ensures err { IfErr result (λ f. f ≢ BuildError.NoMemory → goes_on (Some Continuation.Conditional) (expr_tree test.value) place (parts_of parts.now) ≡ None) }
 {
-    let Next::Node(first, behind) = split(parts) else {
-        return Err(BuildError::Misfit);
-    };
-    let Next::Leaf(colon, further) = split(behind) else {
-        return Err(BuildError::Misfit);
-    };
-    let Next::Node(second, rest) = split(further) else {
-        return Err(BuildError::Misfit);
-    };
-    if !is(Mark::Colon, colon.kind) {
-        return Err(BuildError::Misfit);
+    match split(parts) {
+        Next::Node(inner, behind) => {
+            let whole = chosen(alloc, test, place, inner, behind)?;
+            Ok(whole)
+        }
+        Next::Leaf(_, _) | Next::End => Err(BuildError::Misfit),
     }
-    let yes = expr_of(alloc, first)?;
-    let no = expr_of(alloc, second)?;
-    let value = Box::new(alloc, Expr::Conditional(test, place, yes, no))?;
-    Ok(Operand { value, rest })
 }
 
 /// Behind `.` or `->`.
@@ -303,8 +341,13 @@ pub fn tail(alloc: Global, value: Box<Expr>, parts: &[Syntax]) -> Result<Box<Exp
                 let Some(continuation) = continuation_of(token.kind) else {
                     return Err(BuildError::Misfit);
                 };
-                let Operand { value, rest } =
-                    continued(alloc, continuation, operand, token.place, behind)?;
+                let Operand { value, rest } = continued(
+                    alloc,
+                    continuation,
+                    operand,
+                    token.place,
+                    behind,
+                )?;
                 operand = value;
                 left = rest;
             }

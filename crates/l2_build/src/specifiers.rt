@@ -1,7 +1,7 @@
 // The specifiers of declarations and types.
 ghost use Rattle.std.specs.Prelude.{◌≡◌, ◌≢◌, ◌≤◌, ◌<◌, Bool, Option, cond, IfSome, IfOk, IfErr, None, Some};
 ghost use Rattle.l2_syntax.specs.declared.token.TokenKind.TheVariants as kind;
-ghost use Rattle.l2_tree.specs.Build.{heads as heads_so, add_specifier, add_enumerator, specifiers as specifiers_so, struct_tag as struct_so, struct_body as struct_body_so, members as members_so, enum_tag as enum_so, enum_body as enum_body_so, enumerators as enumerators_so, behind_enumerator as enumerated_so};
+ghost use Rattle.l2_tree.specs.Build.{heads as heads_so, add_specifier, add_enumerator, specifiers as specifiers_so, struct_tag as struct_so, struct_body as struct_body_so, members as members_so, enum_tag as enum_so, enum_body as enum_body_so, enumerators as enumerators_so, enumerator_value as enumerator_value_so, behind_enumerator as enumerated_so};
 ghost use Rattle.l2_tree.specs.Trees.{SpecifierTrees, DeclarationTrees, EnumeratorTrees, no_declarations};
 ghost use Rattle.l2_tree.specs.Units.{specifier_tree, specifiers_tree, declarations_onto, enumerator_tree, enumerators_tree};
 ghost use Rattle.l2_build.specs.Parts.{parts_of, size_of};
@@ -73,11 +73,10 @@ fn members<'a>(alloc: Global, parts: &'a [Syntax]) -> Result<MemberList<'a>, Bui
                 left = rest;
             }
             Next::Leaf(close, rest) => {
-                return if is(Mark::CloseBrace, close.kind) {
-                    Ok(MemberList { all, rest })
-                } else {
-                    Err(BuildError::Misfit)
-                };
+                if !is(Mark::CloseBrace, close.kind) {
+                    return Err(BuildError::Misfit);
+                }
+                return Ok(MemberList { all, rest });
             }
             Next::End => return Err(BuildError::Misfit),
         }
@@ -133,6 +132,29 @@ fn struct_tag<'a>(
     Ok(OneSpecifier { value, rest })
 }
 
+/// The value of an enumerator, from its `=` on.
+#[cycle(build)]
+fn valued<'a>(
+    alloc: Global,
+    name: u32,
+    place: Place,
+    parts: &'a [Syntax],
+) -> Result<OneEnumerator<'a>, BuildError>
+    ensures ok { IfOk result (λ r. (f : EnumeratorTrees → Bool → SpecifierTrees) (es : Option EnumeratorTrees) → enumerator_value_so f es name place (parts_of parts.now) ≡ enumerated_so f (add_enumerator es (enumerator_tree r.value.value)) (parts_of r.rest.now)) }
+    ensures less { IfOk result (λ r. size_of r.rest.now ≤ size_of parts.now) }
+    ensures err { IfErr result (λ e. e ≢ BuildError.NoMemory → (f : EnumeratorTrees → Bool → SpecifierTrees) (es : Option EnumeratorTrees) → enumerator_value_so f es name place (parts_of parts.now) ≡ None) }
+{
+    let Next::Leaf(equal, behind) = split(parts) else {
+        return Err(BuildError::Misfit);
+    };
+    let Next::Node(inner, rest) = split(behind) else {
+        return Err(BuildError::Misfit);
+    };
+    let number = expr_of(alloc, inner)?;
+    let value = Box::new(alloc, Enumerator::Valued(name, place, equal.place, number))?;
+    Ok(OneEnumerator { value, rest })
+}
+
 /// An enumerator.
 #[cycle(build)]
 fn enumerator<'a>(alloc: Global, parts: &'a [Syntax]) -> Result<OneEnumerator<'a>, BuildError>
@@ -153,18 +175,8 @@ fn enumerator<'a>(alloc: Global, parts: &'a [Syntax]) -> Result<OneEnumerator<'a
             rest: behind,
         });
     }
-    let Next::Leaf(equal, further) = split(behind) else {
-        return Err(BuildError::Misfit);
-    };
-    let Next::Node(inner, rest) = split(further) else {
-        return Err(BuildError::Misfit);
-    };
-    let number = expr_of(alloc, inner)?;
-    let value = Box::new(
-        alloc,
-        Enumerator::Valued(name, token.place, equal.place, number),
-    )?;
-    Ok(OneEnumerator { value, rest })
+    let one = valued(alloc, name, token.place, behind)?;
+    Ok(one)
 }
 
 /// The enumerators of an enum, behind its brace.
@@ -307,10 +319,7 @@ fn enum_of<'a>(
 
 /// The next specifier, where one stands next.
 #[cycle(build)]
-fn specifier<'a>(
-    alloc: Global,
-    parts: &'a [Syntax],
-) -> Result<Option<OneSpecifier<'a>>, BuildError>
+fn specifier<'a>(alloc: Global, parts: &'a [Syntax]) -> Result<Option<OneSpecifier<'a>>, BuildError>
     ensures ok { IfOk result (λ o. (xs : Option SpecifierTrees) → specifiers_so xs (parts_of parts.now) ≡ goes_on_or xs o (parts_of parts.now)) }
     ensures less { IfOk result (λ o. IfSome o (λ r. size_of r.rest.now < size_of parts.now)) }
     ensures err { IfErr result (λ e. e ≢ BuildError.NoMemory → (xs : Option SpecifierTrees) → specifiers_so xs (parts_of parts.now) ≡ None) }

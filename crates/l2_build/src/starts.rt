@@ -5,8 +5,8 @@ ghost use Rattle.l2_build.specs.Types.{perhaps_specifier, word_number};
 
 use l2_syntax::{Mark, Place, TokenKind};
 use l2_tree::{
-    AssignmentOperator, BinaryOperator, Continuation, MemberOperator, Opening, Specifier, SpecifierWord,
-    UnaryOperator, UpdateOperator,
+    AssignmentOperator, BinaryOperator, Continuation, MemberOperator, Opening, Specifier,
+    SpecifierWord, UnaryOperator, UpdateOperator,
 };
 
 fn unary_of(mark: Mark) -> Option<UnaryOperator>

@@ -63,7 +63,9 @@ pub fn brackets(parts: &[Syntax]) -> bool
     let Next::End = split(last) else {
         return false;
     };
-    is(Mark::OpenParenthesis, open.kind) && is(Mark::CloseParenthesis, close.kind) && specifies(inner)
+    is(Mark::OpenParenthesis, open.kind)
+        && is(Mark::CloseParenthesis, close.kind)
+        && specifies(inner)
 }
 
 /// The name of a type in parentheses.

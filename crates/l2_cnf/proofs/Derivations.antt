@@ -93,3 +93,17 @@ pub IsDerivation-step : (formula : List (List ℤ)) (n : ℕ) (front : List Step
 IsDerivation-step formula n [] step back derived = subst (λ x. IsStep x n step.number step.clause step.hints) (sym (append-nil formula)) derived.0
 IsDerivation-step formula n (first ∷ front) step back derived =
     subst (λ x. IsStep x n step.number step.clause step.hints) (append_assoc formula (first.clause ∷ []) (clauses_of front)) (IsDerivation-step (formula ++ first.clause ∷ []) n front step back derived.1)
+
+-- a step over more variables
+pub IsStep-over : (clauses : List (List ℤ)) (few many number : ℕ) (clause : List ℤ) (hints : List ℕ) → few ≤ many → IsStep clauses few number clause hints → IsStep clauses many number clause hints
+IsStep-over clauses few many number clause hints h step = record {
+  number_is = step.number_is;
+  over = λ l c. (let o = step.over l c in (o.0, omega (arith, o.1, h)));
+  apart = step.apart;
+  leads = step.leads;
+}
+
+pub IsDerivation-over : (formula : List (List ℤ)) (few many : ℕ) (steps : List Step) → few ≤ many → IsDerivation formula few steps → IsDerivation formula many steps
+IsDerivation-over formula few many [] h derived = tt
+IsDerivation-over formula few many (step ∷ steps) h derived =
+    (IsStep-over formula few many step.number step.clause step.hints h derived.0, IsDerivation-over (formula ++ step.clause ∷ []) few many steps h derived.1)

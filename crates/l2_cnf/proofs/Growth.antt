@@ -1,6 +1,6 @@
 -- What is absorbed, and what stays so when a list of clauses grows.
 use Rattle.std.proofs.Common.{inl, inr, List, ◌++◌, [], sym, ◌∙◌, subst, arith}
-use Rattle.std.specs.Prelude.{ℤ, Contains}
+use Rattle.std.specs.Prelude.{ℤ, neg_ℤ, Contains}
 use Rattle.std.proofs.lemmas.List.Elements.{Contains-append_left}
 use lib.IntN.{neg_ℤ-neg_ℤ}
 use Rattle.l2_cnf.specs.Logic.{assumed, unit, NegationBut, IsAbsorbed, Settles}
@@ -24,6 +24,13 @@ IsAbsorbed-append list rest clause absorbed = IsAbsorbed-grows list (list ++ res
 
 pub Settles-append : (list rest : List (List ℤ)) (literals : List ℤ) → Settles list literals → Settles (list ++ rest) literals
 Settles-append list rest literals settled = Settles-grows list (list ++ rest) (λ c h. Contains-append_left list rest c h) literals settled
+
+-- what is settled stays so beside more literals
+pub Settles-more : (list : List (List ℤ)) (few many : List ℤ) → ((l : ℤ) → Contains few l → Contains many l) → Settles list few → Settles list many
+Settles-more list few many grows settled = elim settled [
+  | inl (l, one, other) ↦ inl (l, grows l one, grows (neg_ℤ l) other)
+  | inr conflict ↦ inr (more_conflicts list list (Contains few) (Contains many) (λ c h. h) (λ m g. assumed (grows m g)) conflict)
+]
 
 -- a clause of the list is absorbed by it
 pub IsAbsorbed-member : (list : List (List ℤ)) (clause : List ℤ) → Contains list clause → IsAbsorbed list clause

@@ -1,4 +1,4 @@
-ghost use Rattle.std.specs.Prelude.{◌++◌, [], ℕ, ℤ, Bool, List, Contains};
+ghost use Rattle.std.specs.Prelude.{◌++◌, ◌≤◌, [], ℕ, ℤ, Bool, List, Contains};
 ghost use Rattle.l2_cnf.specs.Logic.{AreLiterals, HasTrue, Satisfies, Follows, IsAbsorbed, Settles};
 ghost use Rattle.l2_cnf.specs.Steps.{Step, IsDerivation, clauses_of};
 
@@ -24,6 +24,18 @@ pub fn absorbed_is_kept()
 pub fn settled_is_kept()
     ensures { (list more : List (List ℤ)) (literals : List ℤ)
         → Settles list literals → Settles (list ++ more) literals }
+{}
+
+/// What a list settles stays settled with more literals beside it.
+pub fn settled_with_more()
+    ensures { (list : List (List ℤ)) (few many : List ℤ)
+        → ((l : ℤ) → Contains few l → Contains many l) → Settles list few → Settles list many }
+{}
+
+/// A derivation over some variables is one over more of them.
+pub fn derived_over_more()
+    ensures { (formula : List (List ℤ)) (few many : ℕ) (steps : List Step)
+        → few ≤ many → IsDerivation formula few steps → IsDerivation formula many steps }
 {}
 
 /// A clause of a list is absorbed by it.

@@ -42,6 +42,7 @@ zero_value ty = record { from = low ty.signed; to = high ty.signed } where
   low : (s : Bool) → cond s (neg_ℤ (pos (2 ^ (ty.width - 1)))) (pos 0) ≤ℤ pos 0
   low true = omega (arith, ints)
   low false = omega (arith, ints)
+
   high : (s : Bool) → pos 0 ≤ℤ cond s (pos (2 ^ (ty.width - 1) - 1)) (pos (2 ^ ty.width - 1))
   high true = omega (arith, ints)
   high false = omega (arith, ints)

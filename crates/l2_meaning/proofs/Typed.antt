@@ -105,7 +105,7 @@ module _ (cells : Layout) (g : Listing) (limit : Limit) (tests : Tests) (is_main
   -- ---- statements
 
   module _ (result : List CellType) (back : LimitKeeps cells IsListed limit) where
-  -- what is returned is of the function's type
+    -- what is returned is of the function's type
     abbrev pub EndingFits : Ending → Type 0
     EndingFits Next = Unit {0}
     EndingFits Broke = Unit {0}

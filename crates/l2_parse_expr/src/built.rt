@@ -23,7 +23,9 @@ pub fn expression_of(alloc: Global, text: &Open, level: Level) -> Result<Expr, A
     expression_run_law();
     match expr_of(alloc, &text.parts) {
         Ok(value) => Ok(Box::into_inner(value)),
-        Err(BuildError::NoMemory) => Err(AllocError),
-        Err(BuildError::Misfit) => unreachable!(),
+        Err(fault) => match fault {
+            BuildError::NoMemory => Err(AllocError),
+            BuildError::Misfit => unreachable!(),
+        },
     }
 }

@@ -22,7 +22,9 @@ pub fn externals(alloc: Global, text: &Open) -> Result<Vec<External>, AllocError
     unit_run_law();
     match unit_of(alloc, &text.parts) {
         Ok(parts) => Ok(parts),
-        Err(BuildError::NoMemory) => Err(AllocError),
-        Err(BuildError::Misfit) => unreachable!(),
+        Err(fault) => match fault {
+            BuildError::NoMemory => Err(AllocError),
+            BuildError::Misfit => unreachable!(),
+        },
     }
 }

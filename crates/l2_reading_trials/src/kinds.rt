@@ -46,7 +46,9 @@ pub fn tokens(alloc: Global, kinds: &str) -> Result<Vec<Token>, AllocError> {
     let mut times = 0u32;
     for &letter in kinds.as_bytes() {
         if letter.is_ascii_digit() {
-            times = times.wrapping_mul(10).wrapping_add(u32::from(letter - b'0'));
+            times = times
+                .wrapping_mul(10)
+                .wrapping_add(u32::from(letter - b'0'));
         } else {
             push_all(&mut all, kind(letter), times.max(1))?;
             times = 0;

@@ -14,5 +14,5 @@ main_typed p f h e =
     let same : h.main_function ≡ function_tree f = some_same h.main_function (function_tree f) (sym h.is_main ∙ sym e) in
     subst (λ (x : FunctionTree). IsTypedIn p x.body) same
     (subst (λ result. IsTypedStatement (layout p) result h.main_function.body) h.main_form.0 main.typed) where
-  some_same : (a b : FunctionTree) → Some a ≡ Some b → a ≡ b
-  some_same a b e = cc
+      some_same : (a b : FunctionTree) → Some a ≡ Some b → a ≡ b
+      some_same a b e = cc

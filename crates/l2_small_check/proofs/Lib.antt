@@ -1,4 +1,5 @@
 pub mod Kept
+pub mod LawfulPrograms
 pub mod Lookups
 pub mod Places
 pub mod Rows

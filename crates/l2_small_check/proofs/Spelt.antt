@@ -1,10 +1,13 @@
 -- A program says what its text says, and each name is declared once.
-use Rattle.std.proofs.Common.{◌≡◌, ℕ, ◌-◌, ◌≤◌, ◌==◌, true, false, if◌then◌else◌, List, [], ◌∷◌, ◌++◌, length, take, get_or, Option, Some, None, refl, ap, ◌∙◌, subst, arith}
-use Rattle.std.specs.Prelude.{option_map, Bool, ◌||◌, nat_lt}
+use Rattle.std.proofs.Common.{◌≡◌, ℕ, ◌≤◌, ◌==◌, ℤ, pos, true, false, if◌then◌else◌, List, [], ◌∷◌, ◌++◌, length, take, Option, Some, None, refl, ap, ◌∙◌, subst, arith}
+use Rattle.std.specs.Prelude.{option_map, Bool, ◌||◌, nat_lt, slice_get, ◌+◌, suc}
 use Rattle.std.proofs.lemmas.List.{length-append}
 use Rattle.std.proofs.Math.Seq.{take-append_seam, take-length}
 use Rattle.l2_syntax.specs.declared.place.Place.{Place}
 use Rattle.l2_bits.specs.Types.{int_type}
+use Rattle.l2_bits.specs.Values.{is_value}
+use Rattle.l2_runs.specs.declared.cells.CellValue.TheVariants as cell
+use Rattle.l2_runs.specs.Numbers.{at_number}
 use Rattle.l2_program.specs.declared.program.Kind.TheVariants.{Assertion}
 use Rattle.l2_runs.specs.declared.operators.UnaryOperator.{UnaryOperator}
 use Rattle.l2_runs.specs.declared.operators.BinaryOperator.{BinaryOperator}
@@ -16,9 +19,9 @@ use Rattle.l2_program.specs.Checked.{TypedTree, CheckedTree, CheckedTrees}
 use Rattle.l2_program.specs.Programs.{ProgramTree}
 use Rattle.l2_small_check.specs.declared.entry.Entry.{Entry}
 use Rattle.l2_small.specs.SmallForm.{and_then}
-use Rattle.l2_small_check.specs.Elaboration.{Scope, Found, Elaborated, lookup, variable, stays, made, within, typed, declare, is_declared, most_cells, object_number, loop_number, check_number, with_loop, with_check, chain, block, item, items, nothing_found, program_with, program_of}
+use Rattle.l2_small_check.specs.Elaboration.{Scope, Found, Elaborated, lookup, int_cell, variable, read_of, assignment, assertion, loop, stays, made, within, typed, declare, is_declared, most_cells, object_number, loop_number, check_number, with_loop, with_check, chain, block, item, items, nothing_found, program_with, program_of}
 use Rattle.l2_small_check.proofs.Places.{is_declared_more}
-use Rattle.l2_small_check.specs.Spelling.{AreApart, found_in, plain, plain_item, plain_items, nowhere, object_of, spelt, spelt_item, spelt_onto, spelt_bodies}
+use Rattle.l2_small_check.specs.Spelling.{AreApart, or_else, found_in, plain, plain_item, plain_items, nowhere, object_of, spelt, spelt_item, spelt_onto, spelt_bodies}
 
 -- a list is what another begins with
 abbrev pub Begins : {A : Type 0} → List A → List A → Type 0
@@ -31,21 +34,24 @@ begins_trans (x ∷ a) (y ∷ b) [] p q = grind arith
 begins_trans (x ∷ a) (y ∷ b) (z ∷ c) p q = let r = begins_trans a b c (grind arith) (grind arith) in grind arith
 
 -- what a list grown by an item begins with has the item there
-at_end : {A : Type 0} (a : List A) (x : A) (b : List A) (d : A) → Begins (a ++ x ∷ []) b → get_or b (length a) d ≡ x
-at_end [] x [] d p = grind arith
-at_end [] x (y ∷ b) d p = grind arith
-at_end (w ∷ a) x [] d p = grind arith
-at_end (w ∷ a) x (y ∷ b) d p = at_end a x b d (grind arith)
+at_end : {A : Type 0} (a : List A) (x : A) (b : List A) → Begins (a ++ x ∷ []) b → slice_get b (length a) ≡ Some x
+at_end [] x [] p = grind arith
+at_end [] x (y ∷ b) p = grind arith
+at_end (w ∷ a) x [] p = grind arith
+at_end (w ∷ a) x (y ∷ b) p = at_end a x b (grind arith)
 
-record Grows (a b : Found) : Type 0 where
-  objects : Begins a.objects b.objects
-  loops : Begins a.loops b.loops
-  checks : Begins a.checks b.checks
+pub at_last : {A : Type 0} (a : List A) (x : A) (b : List A) → Begins (a ++ x ∷ []) b → at_number b (length a + 1) ≡ Some x
+at_last a x b p = let e : length a + 1 ≡ suc (length a) = omega arith in ap (at_number b) e ∙ at_end a x b p
 
-grows_not : (a : Found) → Grows a a
+pub record Grows (a b : Found) : Type 0 where
+  pub objects : Begins a.objects b.objects
+  pub loops : Begins a.loops b.loops
+  pub checks : Begins a.checks b.checks
+
+pub grows_not : (a : Found) → Grows a a
 grows_not a = record { objects = take-length a.objects; loops = take-length a.loops; checks = take-length a.checks }
 
-grows_trans : (a b c : Found) → Grows a b → Grows b c → Grows a c
+pub grows_trans : (a b c : Found) → Grows a b → Grows b c → Grows a c
 grows_trans a b c p q = record {
   objects = begins_trans a.objects b.objects c.objects p.objects q.objects;
   loops = begins_trans a.loops b.loops c.loops p.loops q.loops;
@@ -90,16 +96,16 @@ module _ (f : Found) where
   SaysValue scope e None = Unit {0}
   SaysValue scope e (Some t) = Sound scope → spelt f t ≡ plain e
 
-  says_name : (scope : Scope) (n : ℕ) (p : Place) (x : Option ℕ) → Finds scope n x → SaysValue scope (small.Name n p) (option_map (λ o. checked.Read (checked.Object o)) x)
+  says_name : (scope : Scope) (n : ℕ) (p : Place) (x : Option ℕ) → Finds scope n x → SaysValue scope (small.Name n p) (option_map read_of x)
   says_name scope n p None h = tt
   says_name scope n p (Some o) h = λ all. ap (λ m. small.Name m nowhere) (h all)
 
-  says_unary : (scope : Scope) (op : UnaryOperator) (e : SmallExprTree) (x : Option TypedTree) → SaysValue scope e x → SaysValue scope (small.Unary op e) (option_map (checked.Unary op int_type) x)
+  says_unary : (scope : Scope) (op : UnaryOperator) (e : SmallExprTree) (x : Option TypedTree) → SaysValue scope e x → SaysValue scope (small.Unary op e) (option_map (checked.Unary op int_type 0) x)
   says_unary scope op e None h = tt
   says_unary scope op e (Some t) h = λ all. ap (small.Unary op) (h all)
 
   says_binary : (scope : Scope) (op : BinaryOperator) (e d : SmallExprTree) (x y : Option TypedTree) → SaysValue scope e x → SaysValue scope d y →
-      SaysValue scope (small.Binary op e d) (and_then x (λ a. option_map (checked.Binary op int_type a) y))
+      SaysValue scope (small.Binary op e d) (and_then x (λ a. option_map (checked.Binary op int_type 0 a) y))
   says_binary scope op e d None y h k = tt
   says_binary scope op e d (Some t) None h k = tt
   says_binary scope op e d (Some t) (Some u) h k = λ all. ap (λ a. small.Binary op a (spelt f u)) (h all) ∙ ap (small.Binary op (plain e)) (k all)
@@ -108,9 +114,13 @@ module _ (f : Found) where
   says_parenthesised scope e None h = tt
   says_parenthesised scope e (Some t) h = h
 
+  says_number : (scope : Scope) (z : ℤ) (b : Bool) → SaysValue scope (small.Number z) (if b then Some (checked.Constant int_cell (cell.Number z)) else None)
+  says_number scope z true = λ all. refl
+  says_number scope z false = tt
+
   value_says : (scope : Scope) (e : SmallExprTree) → SaysValue scope e (typed scope e)
   value_says scope (small.Name n p) = says_name scope n p (lookup scope n) (finds scope n)
-  value_says scope (small.Number z) = λ all. refl
+  value_says scope (small.Number z) = says_number scope z (is_value int_type z)
   value_says scope (small.Choice p) = λ all. refl
   value_says scope (small.Parenthesised e) = says_parenthesised scope e (typed scope e) (value_says scope e)
   value_says scope (small.Unary op e) = says_unary scope op e (typed scope e) (value_says scope e)
@@ -142,8 +152,7 @@ module _ (f : Found) where
 
     it_is : Grows with_object f → object_of f (object_number found) ≡ variable n p
     it_is g =
-        let e : object_number found - 1 ≡ length found.objects = omega arith in
-        ap (λ i. get_or f.objects i (variable 0 nowhere)) e ∙ at_end found.objects (variable n p) f.objects (variable 0 nowhere) g.objects
+        ap (or_else (variable 0 nowhere)) (at_last found.objects (variable n p) f.objects g.objects)
 
     go : (b : Bool) → (is_declared found.objects n || nat_lt most_cells (object_number found)) ≡ b → SaysDeclared n p scope found (if b then None else Some (record { tree = object_number found; scope = scope ++ record { name = n; object = object_number found } ∷ []; found = with_object }))
     go true h = tt
@@ -186,7 +195,7 @@ module _ (f : Found) where
     }
 
   says_assign : (n : ℕ) (p : Place) (e : SmallExprTree) (scope : Scope) (found : Found) (x : Option ℕ) (y : Option TypedTree) → Finds scope n x → SaysValue scope e y →
-      Says (small.Assign n p e) scope found (and_then x (λ o. option_map (λ t. stays scope found (checked.Evaluate (checked.Assign (checked.Object o) t))) y))
+      Says (small.Assign n p e) scope found (and_then x (λ o. option_map (λ t. stays scope found (assignment o t)) y))
   says_assign n p e scope found None y h v = tt
   says_assign n p e scope found (Some o) None h v = tt
   says_assign n p e scope found (Some o) (Some t) h v = record {
@@ -225,7 +234,7 @@ module _ (f : Found) where
     }
 
   says_while : (p : Place) (e : SmallExprTree) (s : SmallStmtTree) (scope : Scope) (found : Found) (x : Option TypedTree) (y : Option (Elaborated CheckedTree)) → SaysValue scope e x → Says s scope (with_loop found p) y →
-      Says (small.While p e s) scope found (and_then x (λ t. option_map (made (checked.While (loop_number found) t)) (within scope y)))
+      Says (small.While p e s) scope found (and_then x (λ t. option_map (made (loop (loop_number found) t)) (within scope y)))
   says_while p e s scope found None y v h = tt
   says_while p e s scope found (Some t) None v h = tt
   says_while p e s scope found (Some t) (Some r) v h =
@@ -235,20 +244,18 @@ module _ (f : Found) where
         apart = h.apart;
         says = λ g sound.
             let all = grows_trans (with_loop found p) r.found f h.grows g in
-            let i : loop_number found - 1 ≡ length found.loops = omega arith in
-            let it = ap (λ i. get_or f.loops i (record { place = nowhere; function = 0; mods = []; vars = [] })) i ∙ at_end found.loops (record { place = p; function = 1; mods = []; vars = [] }) f.loops (record { place = nowhere; function = 0; mods = []; vars = [] }) all.loops in
+            let it = ap (or_else (record { place = nowhere; function = 0; mods = []; vars = [] })) (at_last found.loops (record { place = p; function = 1; mods = []; vars = [] }) f.loops all.loops) in
             (sound, ap (λ l. small.While l.place (spelt f t) (spelt_item f r.tree)) it ∙ ap (λ d. small.While p d (spelt_item f r.tree)) (v sound) ∙ ap (small.While p (plain e)) (h.says g sound).1);
       }
 
   says_assert : (p : Place) (e : SmallExprTree) (scope : Scope) (found : Found) (x : Option TypedTree) → SaysValue scope e x →
-      Says (small.Assert p e) scope found (option_map (λ t. stays scope (with_check found p) (checked.Evaluate (checked.Assert (check_number found) t))) x)
+      Says (small.Assert p e) scope found (option_map (λ t. stays scope (with_check found p) (assertion (check_number found) t)) x)
   says_assert p e scope found None v = tt
   says_assert p e scope found (Some t) v = record {
     grows = record { objects = take-length found.objects; loops = take-length found.loops; checks = take-append_seam found.checks _ };
     apart = λ a. a;
     says = λ g sound.
-        let i : check_number found - 1 ≡ length found.checks = omega arith in
-        let it = ap (λ i. get_or f.checks i (record { place = nowhere; kind = Assertion })) i ∙ at_end found.checks (record { place = p; kind = Assertion }) f.checks (record { place = nowhere; kind = Assertion }) g.checks in
+        let it = ap (or_else (record { place = nowhere; kind = Assertion })) (at_last found.checks (record { place = p; kind = Assertion }) f.checks g.checks) in
         (sound, ap (λ c. small.Assert c.place (spelt f t)) it ∙ ap (small.Assert p) (v sound));
   }
 

@@ -1,8 +1,11 @@
 -- The program of a unit of the small form: names stand for objects, and objects, loops and checks are numbered from 1 in the order of the text.
--- A unit has none where a name is declared a second time, is used where it isn't in scope, or where there are too many cells.
+-- A unit has none where a name is declared a second time or is used where it isn't in scope, where a constant is no value of `int`,
+-- or where there are too many cells.
 use Rattle.std.specs.Prelude.{ℕ, ◌+◌, ◌==◌, Bool, false, ◌||◌, if◌then◌else◌, nat_lt, List, [], ◌∷◌, ◌++◌, length, codes, Option, Some, None, option_map}
 use Rattle.l2_bits.specs.Types.{int_type}
+use Rattle.l2_bits.specs.Values.{is_value}
 use Rattle.l2_syntax.specs.declared.place.Place.{Place}
+use Rattle.l2_runs.specs.declared.cells.CellType.{CellType}
 use Rattle.l2_runs.specs.declared.cells.CellType.TheVariants.{Integer}
 use Rattle.l2_runs.specs.declared.cells.CellValue.TheVariants as cell
 use Rattle.l2_program.specs.declared.program.Kind.TheVariants.{Assertion}
@@ -15,6 +18,7 @@ use Rattle.l2_small.specs.SmallTrees as small
 use Rattle.l2_small.specs.SmallTrees.{SmallExprTree, SmallStmtTree, SmallStmtTrees, SmallUnitTree}
 use Rattle.l2_program.specs.Checked as checked
 use Rattle.l2_program.specs.Checked.{TypedTree, CheckedTree, CheckedTrees}
+use Rattle.l2_program.specs.Names.{names_of, names_in}
 use Rattle.l2_program.specs.Programs.{ProgramTree, FunctionTree}
 use Rattle.l2_small_check.specs.declared.entry.Entry.{Entry}
 
@@ -39,9 +43,12 @@ abbrev pub is_declared : List ObjectInfo → ℕ → Bool
 is_declared [] n = false
 is_declared (o ∷ rest) n = o.name == n || is_declared rest n
 
+abbrev pub int_cell : CellType
+int_cell = Integer int_type
+
 -- a variable of type `int` in `main`
 abbrev pub variable : ℕ → Place → ObjectInfo
-variable n p = record { name = n; place = p; cells = Integer int_type ∷ []; is_static = false; function = 1 }
+variable n p = record { name = n; place = p; cells = int_cell ∷ []; is_static = false; function = 1 }
 
 -- what an item becomes, the names that are in scope behind it, and what was found up to its end
 pub record Elaborated (A : Type 0) : Type 0 where
@@ -63,13 +70,17 @@ within scope (Some r) = Some (stays scope r.found r.tree)
 
 -- ---- expressions
 
+abbrev pub read_of : ℕ → TypedTree
+read_of o = checked.Read int_cell (checked.Object o)
+
+-- the small form has no checks but assertions
 abbrev pub typed : Scope → SmallExprTree → Option TypedTree
-typed scope (small.Name n p) = option_map (λ o. checked.Read (checked.Object o)) (lookup scope n)
-typed scope (small.Number z) = Some (checked.Constant (cell.Number z))
+typed scope (small.Name n p) = option_map read_of (lookup scope n)
+typed scope (small.Number z) = if is_value int_type z then Some (checked.Constant int_cell (cell.Number z)) else None
 typed scope (small.Choice p) = Some (checked.Choice int_type)
 typed scope (small.Parenthesised e) = typed scope e
-typed scope (small.Unary op e) = option_map (checked.Unary op int_type) (typed scope e)
-typed scope (small.Binary op x y) = and_then (typed scope x) (λ a. option_map (checked.Binary op int_type a) (typed scope y))
+typed scope (small.Unary op e) = option_map (checked.Unary op int_type 0) (typed scope e)
+typed scope (small.Binary op x y) = and_then (typed scope x) (λ a. option_map (checked.Binary op int_type 0 a) (typed scope y))
 
 -- ---- statements
 
@@ -106,6 +117,16 @@ chain (t ∷ rest) = checked.more t (chain rest)
 abbrev pub block : List CheckedTree → CheckedTree
 block all = checked.Block (chain all)
 
+abbrev pub assignment : ℕ → TypedTree → CheckedTree
+assignment o t = checked.Evaluate (checked.Assign int_cell (checked.Object o) t)
+
+abbrev pub assertion : ℕ → TypedTree → CheckedTree
+assertion c t = checked.Evaluate (checked.Assert c t)
+
+-- a loop of this number, with the objects that its text names
+abbrev pub loop : ℕ → TypedTree → CheckedTree → CheckedTree
+loop l t s = checked.While l (names_of t ++ names_in s) t s
+
 abbrev mutual
   pub item : Scope → Found → SmallStmtTree → Option (Elaborated CheckedTree)
   item scope found (small.Block all) = option_map (made block) (within scope (items scope found all))
@@ -114,7 +135,7 @@ abbrev mutual
       -- the name is in scope in its own initialiser (C11 6.2.1p7)
       and_then (declare scope found n p) (λ d. option_map (λ t. stays d.scope d.found (checked.Initialise d.tree t)) (typed d.scope e))
   item scope found (small.Assign n p e) =
-      and_then (lookup scope n) (λ o. option_map (λ t. stays scope found (checked.Evaluate (checked.Assign (checked.Object o) t))) (typed scope e))
+      and_then (lookup scope n) (λ o. option_map (λ t. stays scope found (assignment o t)) (typed scope e))
   item scope found (small.If e s) =
       and_then (typed scope e) (λ t. option_map (made (checked.If t)) (within scope (item scope found s)))
   item scope found (small.IfElse e s z) =
@@ -122,9 +143,9 @@ abbrev mutual
       option_map (made (checked.IfElse t r.tree)) (within scope (item scope r.found z))))
   item scope found (small.While p e s) =
       and_then (typed scope e) (λ t.
-      option_map (made (checked.While (loop_number found) t)) (within scope (item scope (with_loop found p) s)))
+      option_map (made (loop (loop_number found) t)) (within scope (item scope (with_loop found p) s)))
   item scope found (small.Assert p e) =
-      option_map (λ t. stays scope (with_check found p) (checked.Evaluate (checked.Assert (check_number found) t))) (typed scope e)
+      option_map (λ t. stays scope (with_check found p) (assertion (check_number found) t)) (typed scope e)
   item scope found (small.Return e) = option_map (λ t. stays scope found (checked.Return t)) (typed scope e)
 
   pub items : Scope → Found → SmallStmtTrees → Option (Elaborated (List CheckedTree))
@@ -142,7 +163,7 @@ main_name = record { bytes = codes "main" }
 
 -- the one function; its name stands behind the names of the text
 abbrev pub main_function : SmallUnitTree → CheckedTree → FunctionTree
-main_function u body = record { name = length u.names; place = u.main; parameters = []; result = Integer int_type ∷ []; body = body }
+main_function u body = record { name = length u.names; place = u.main; parameters = []; result = int_cell ∷ []; body = body }
 
 abbrev pub program_with : SmallUnitTree → Elaborated (List CheckedTree) → ProgramTree
 program_with u r = record {

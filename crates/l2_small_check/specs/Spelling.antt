@@ -1,7 +1,8 @@
 -- A program as a text again: each number is looked up in the program's lists, and says which name, loop or check it is.
-use Rattle.std.specs.Prelude.{◌≡◌, ℕ, ◌-◌, pos, false, List, [], ◌∷◌, map, slice_index_or}
+use Rattle.std.specs.Prelude.{◌≡◌, ℕ, pos, false, List, [], ◌∷◌, map, Option, Some, None}
 use Rattle.l2_syntax.specs.declared.place.Place.{Place}
 use Rattle.l2_runs.specs.declared.cells.CellValue.TheVariants as cell
+use Rattle.l2_runs.specs.Numbers.{at_number}
 use Rattle.l2_program.specs.declared.program.Kind.TheVariants.{Assertion}
 use Rattle.l2_program.specs.declared.program.ObjectInfo.{ObjectInfo}
 use Rattle.l2_program.specs.declared.program.LoopInfo.{LoopInfo}
@@ -48,46 +49,54 @@ abbrev pub AreApart : List ObjectInfo → Type 0
 AreApart [] = Unit {0}
 AreApart (o ∷ rest) = (is_declared rest o.name ≡ false) × AreApart rest
 
+abbrev pub or_else : {A : Type 0} → A → Option A → A
+or_else d None = d
+or_else d (Some x) = x
+
 abbrev pub object_of : Found → ℕ → ObjectInfo
-object_of f o = slice_index_or f.objects (o - 1) (variable 0 nowhere)
+object_of f o = or_else (variable 0 nowhere) (at_number f.objects o)
 
 abbrev pub loop_of : Found → ℕ → LoopInfo
-loop_of f l = slice_index_or f.loops (l - 1) (record { place = nowhere; function = 0; mods = []; vars = [] })
+loop_of f l = or_else (record { place = nowhere; function = 0; mods = []; vars = [] }) (at_number f.loops l)
 
 abbrev pub check_of : Found → ℕ → CheckInfo
-check_of f c = slice_index_or f.checks (c - 1) (record { place = nowhere; kind = Assertion })
+check_of f c = or_else (record { place = nowhere; kind = Assertion }) (at_number f.checks c)
 
 -- what no text of the small form has is spelt 0
 abbrev pub spelt : Found → TypedTree → SmallExprTree
-spelt f (checked.Constant (cell.Number z)) = Number z
-spelt f (checked.Constant cell.Null) = Number (pos 0)
-spelt f (checked.Constant cell.Invalid) = Number (pos 0)
-spelt f (checked.Constant (cell.At o i)) = Number (pos 0)
+spelt f (checked.Constant ty (cell.Number z)) = Number z
+spelt f (checked.Constant ty cell.Null) = Number (pos 0)
+spelt f (checked.Constant ty cell.Invalid) = Number (pos 0)
+spelt f (checked.Constant ty (cell.At o i)) = Number (pos 0)
 spelt f (checked.Choice ty) = Choice nowhere
-spelt f (checked.Read (checked.Object o)) = Name (object_of f o).name nowhere
-spelt f (checked.Unary op ty e) = Unary op (spelt f e)
-spelt f (checked.Binary op ty x y) = Binary op (spelt f x) (spelt f y)
-spelt f (checked.Assign l e) = Number (pos 0)
+spelt f (checked.Read ty (checked.Object o)) = Name (object_of f o).name nowhere
+spelt f (checked.Unary op ty c e) = Unary op (spelt f e)
+spelt f (checked.Binary op ty c x y) = Binary op (spelt f x) (spelt f y)
+spelt f (checked.Convert ty e) = Number (pos 0)
+spelt f (checked.Assign ty l e) = Number (pos 0)
 spelt f (checked.Assert c e) = Number (pos 0)
 
 abbrev pub spelt_effect : Found → TypedTree → SmallStmtTree
-spelt_effect f (checked.Constant v) = Block none
+spelt_effect f (checked.Constant ty v) = Block none
 spelt_effect f (checked.Choice ty) = Block none
-spelt_effect f (checked.Read l) = Block none
-spelt_effect f (checked.Unary op ty e) = Block none
-spelt_effect f (checked.Binary op ty x y) = Block none
-spelt_effect f (checked.Assign (checked.Object o) e) = Assign (object_of f o).name nowhere (spelt f e)
+spelt_effect f (checked.Read ty l) = Block none
+spelt_effect f (checked.Unary op ty c e) = Block none
+spelt_effect f (checked.Binary op ty c x y) = Block none
+spelt_effect f (checked.Convert ty e) = Block none
+spelt_effect f (checked.Assign ty (checked.Object o) e) = Assign (object_of f o).name nowhere (spelt f e)
 spelt_effect f (checked.Assert c e) = Assert (check_of f c).place (spelt f e)
 
 abbrev mutual
   pub spelt_item : Found → CheckedTree → SmallStmtTree
   spelt_item f (checked.Block all) = Block (spelt_onto f none all)
   spelt_item f (checked.Declare o) = Declare (object_of f o).name (object_of f o).place
+  spelt_item f (checked.Static o) = Block none
   spelt_item f (checked.Initialise o e) = Initialise (object_of f o).name (object_of f o).place (spelt f e)
+  spelt_item f (checked.Label n) = Block none
   spelt_item f (checked.Evaluate e) = spelt_effect f e
   spelt_item f (checked.If e s) = If (spelt f e) (spelt_item f s)
   spelt_item f (checked.IfElse e s z) = IfElse (spelt f e) (spelt_item f s) (spelt_item f z)
-  spelt_item f (checked.While l e s) = While (loop_of f l).place (spelt f e) (spelt_item f s)
+  spelt_item f (checked.While l named e s) = While (loop_of f l).place (spelt f e) (spelt_item f s)
   spelt_item f (checked.Return e) = Return (spelt f e)
 
   pub spelt_onto : Found → SmallStmtTrees → CheckedTrees → SmallStmtTrees

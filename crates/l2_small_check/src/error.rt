@@ -4,8 +4,9 @@ use thiserror::Error;
 /// Why a unit has no program.
 #[derive(Clone, Copy, Debug, PartialEq, Eq, Error)]
 pub enum CheckError {
-    /// A name is declared a second time or used where it isn't in scope, or there are more than 65,536 cells.
-    #[error("a name is declared twice or isn't in scope, or there are too many cells")]
+    /// A name is declared a second time or used where it isn't in scope, a constant is no value of `int`, or there are more
+    /// than 65,536 cells.
+    #[error("a name is declared twice or isn't in scope, a constant is too large, or there are too many cells")]
     NotSmall,
     #[error("out of memory")]
     NoMemory,

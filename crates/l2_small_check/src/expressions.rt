@@ -7,10 +7,10 @@ ghost use Rattle.l2_small_check.specs.Elaboration.{typed};
 use crate::error::CheckError;
 use crate::make::{binary, unary};
 use crate::table::Table;
-use l2_bits::Ty;
+use l2_bits::{Ty, is_value};
 use l2_small::SmallExpr;
 use l2_program::{Lvalue, Typed};
-use l2_runs::CellValue;
+use l2_runs::{CellType, CellValue};
 use std::alloc::Global;
 
 /// An expression with its names resolved.
@@ -21,10 +21,22 @@ pub fn typed(alloc: Global, table: &Table, e: &SmallExpr) -> Result<Typed, Check
 {
     match e {
         SmallExpr::Name(name, _) => match table.lookup(*name) {
-            Some(object) => Ok(Typed::Read(Lvalue::Object(object))),
+            Some(object) => Ok(Typed::Read(
+                CellType::Integer(Ty::INT),
+                Lvalue::Object(object),
+            )),
             None => Err(CheckError::NotSmall),
         },
-        SmallExpr::Number(value) => Ok(Typed::Constant(CellValue::Number(*value))),
+        SmallExpr::Number(value) => {
+            if is_value(Ty::INT, *value) {
+                Ok(Typed::Constant(
+                    CellType::Integer(Ty::INT),
+                    CellValue::Number(*value),
+                ))
+            } else {
+                Err(CheckError::NotSmall)
+            }
+        }
         SmallExpr::Choice(_) => Ok(Typed::Choice(Ty::INT)),
         SmallExpr::Parenthesised(e) => typed(alloc, table, e),
         SmallExpr::Unary(operator, e) => match typed(alloc, table, e) {

@@ -2,6 +2,7 @@
 ghost use Rattle.std.specs.Prelude.{◌≡◌, ◌≤◌, [], ◌∷◌, Some, length};
 ghost use Rattle.l2_small.specs.SmallTrees.{Block, SmallUnitTree};
 ghost use Rattle.l2_program.specs.Programs.{ProgramTree};
+ghost use Rattle.l2_meaning.specs.Lawful.{IsLawful};
 ghost use Rattle.l2_small_check.specs.Elaboration.{program_of, most_cells};
 ghost use Rattle.l2_small_check.specs.Spelling.{plain_items, spelt_bodies, AreApart};
 
@@ -17,4 +18,10 @@ pub fn programs_say_what_texts_say()
 pub fn names_are_declared_once()
     ensures once { (u : SmallUnitTree) (p : ProgramTree) → program_of u ≡ Some p → AreApart p.objects }
     ensures cells { (u : SmallUnitTree) (p : ProgramTree) → program_of u ≡ Some p → length p.objects ≤ most_cells }
+{}
+
+/// A program is typed, names what is in scope, and has the objects, loops and checks that its lists say.
+#[tactic(auto, using(crate::proofs::LawfulPrograms::program_lawful))]
+pub fn programs_are_lawful()
+    ensures { (u : SmallUnitTree) (p : ProgramTree) → program_of u ≡ Some p → IsLawful p }
 {}

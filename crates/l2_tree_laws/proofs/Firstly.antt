@@ -1,5 +1,5 @@
 -- Expressions, types and items begin where they are said to.
-use Rattle.std.proofs.Common.{◌≡◌, refl, Bool, true, false, List, ◌∷◌, Option, None, Some}
+use Rattle.std.proofs.Common.{refl, Bool, true, false, ◌∷◌, Option, None, Some}
 use Rattle.l2_syntax.specs.declared.place.Place.{Place}
 use Rattle.l2_grammar.specs.declared.states.Sort.{Sort}
 use Rattle.l2_grammar.specs.Trees.{Seen, Tree, begin, token, child, spell}

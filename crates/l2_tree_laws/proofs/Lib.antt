@@ -12,3 +12,4 @@ pub mod FormTokens
 pub mod FormChildren
 pub mod Built
 pub mod Firstly
+pub mod Types

@@ -3,7 +3,7 @@ use Rattle.std.specs.Prelude.{◌≡◌, List, ◌∷◌}
 use Rattle.l2_syntax.specs.declared.place.Place.{Place}
 use Rattle.l2_grammar.specs.declared.states.Sort.{Sort}
 use Rattle.l2_grammar.specs.Trees.{Seen, Tree, begin, spell}
-use Rattle.l2_tree.specs.Trees.{ExprTree, Name, Number, Text, Parenthesised, Index, Call, Member, PostUpdate, Update, Unary, Sizeof, SizeofType, Cast, Binary, Conditional, Assign, Comma, SpecifierTree, Word, TypeName, Struct, StructBody, Enum, EnumBody, SpecifierTrees, first_specifier, and_specifier, ParameterTree, Bare, Declared, InitialiserTree, Expression, Braced, DeclarationTree}
+use Rattle.l2_tree.specs.Trees.{ExprTree, Name, Number, Text, Parenthesised, Index, Call, Member, PostUpdate, Update, Unary, Sizeof, SizeofType, Cast, Binary, Conditional, Assign, Comma, SpecifierTree, Word, TypeName, Struct, StructBody, Enum, EnumBody, SpecifierTrees, first_specifier, and_specifier, ParameterTree, Bare, Declared, InitialiserTree, Expression, Braced}
 use Rattle.l2_tree.specs.Spelling.{run_expr, run_parameter, run_initialiser, specifiers_onto}
 
 -- the place of an expression's first token

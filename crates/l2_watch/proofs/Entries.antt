@@ -1,10 +1,10 @@
 -- Entries of lists: what they name as lists and clauses grow.
-use Rattle.std.proofs.Common.{◌≡◌, ◌⊎◌, inl, inr, ℕ, suc, zero, ◌-◌, ◌/◌, ◌%◌, ◌<◌, ◌≤◌, List, ◌++◌, [], ◌∷◌, length, get_or, set, take, map, refl, sym, ap, ◌∙◌, subst, arith, Bool, true, false, eqb, cond}
+use Rattle.std.proofs.Common.{◌≡◌, ◌⊎◌, inl, inr, ℕ, suc, zero, ◌+◌, ◌-◌, ◌/◌, ◌%◌, ◌<◌, ◌≤◌, List, ◌++◌, [], ◌∷◌, length, get_or, set, take, drop, map, refl, sym, ap, ◌∙◌, subst, arith, Bool, true, false, eqb, cond}
 use Rattle.std.specs.Prelude.{ℤ, pos, negsuc, nat_abs, Contains, Vec}
 use Rattle.std.specs.declared.alloc.Global.{Global}
 use Rattle.std.proofs.lemmas.Bool.{cases_lt, cases_eq}
-use Rattle.std.proofs.lemmas.List.{get_or-set_same, get_or-set_other, length-set, get_or_past, get_or_append_left, get_or_push, length_push, take-append-le, take_all, get_or-take, length-take-le, set-get_or, set-set, map-set, map_push, get_or-map, length-map}
-use Rattle.std.proofs.lemmas.List.Elements.{Contains-push_cases}
+use Rattle.std.proofs.lemmas.List.{get_or-set_same, get_or-set_other, length-set, get_or_past, get_or_append_left, get_or_push, length_push, take-append-le, take_all, get_or-take, get_or-drop, length-drop, length-take-le, set-get_or, set-set, map-set, map_push, get_or-map, length-map}
+use Rattle.std.proofs.lemmas.List.Elements.{Contains-push_cases, Contains-append_cases}
 use Rattle.l2_cnf.specs.Lit.{code_of, literal_of, positive, code_of-literal_of}
 use Rattle.l2_watch.specs.declared.entry.Entry.{Entry}
 use Rattle.l2_watch.specs.Visit.{entries_of, indices_of, items_of, IsEntry, AreEntries, AreAllEntries, AreMore, entered, entered_both, list_of, pair_of, ArePairs}
@@ -164,3 +164,10 @@ pub entries_take : (clauses : List (List ℤ)) (xs : List Entry) (n : ℕ) → n
 entries_take clauses xs n h are x (k, b, e) =
     let before : k < n = omega (arith, b, length-take-le n xs h) in
     are x (k, omega (arith, before, h), sym (get_or-take n xs k x before) ∙ e)
+
+-- the entries that are left where some in the middle are taken out
+pub entries_gap : (clauses : List (List ℤ)) (xs : List Entry) (n i : ℕ) → n ≤ length xs → i ≤ length xs → AreEntries clauses xs → AreEntries clauses (take n xs ++ drop i xs)
+entries_gap clauses xs n i g h are e there = elim (Contains-append_cases (take n xs) (drop i xs) e there) [
+  | inl front ↦ entries_take clauses xs n g are e front
+  | inr (k, b, at) ↦ are e (i + k, omega (arith, b, length-drop i xs, h), sym (get_or-drop i xs k e) ∙ at)
+]

@@ -6,3 +6,4 @@ pub mod Rounds
 pub mod Pasts
 pub mod Boards
 pub mod Entries
+pub mod Singles

@@ -1,8 +1,8 @@
 -- What going through a list keeps.
-use Rattle.std.proofs.Common.{◌≡◌, ◌⊎◌, inl, inr, ℕ, suc, zero, ◌+◌, ◌<◌, ◌≤◌, List, ◌++◌, [], ◌∷◌, length, get_or, set, take, drop, refl, sym, ap, ◌∙◌, subst, arith}
+use Rattle.std.proofs.Common.{ap₂, ◌≡◌, ◌⊎◌, inl, inr, ℕ, suc, zero, ◌+◌, ◌<◌, ◌≤◌, List, ◌++◌, [], ◌∷◌, length, get_or, set, take, drop, refl, sym, ap, ◌∙◌, subst, arith}
 use Rattle.std.specs.Prelude.{ℤ, pos, negsuc, nat_abs, neg_ℤ, Contains}
 use Rattle.std.proofs.lemmas.Bool.{cases_eq}
-use Rattle.std.proofs.lemmas.List.{drop_all, take-map, length-map, take-append-le, length_push, drop_more, take_more_set, drop-set-lt, length-drop, get_or_default, get_or-take, get_or-drop, length-take-le}
+use Rattle.std.proofs.lemmas.List.{drop_all, take-map, drop-map, map-append, length-map, take-append-le, length_push, drop_more, take_more_set, drop-set-lt, length-drop, get_or_default, get_or-take, get_or-drop, length-take-le}
 use Rattle.std.proofs.lemmas.List.Elements.{Contains-append_left, Contains-push, Contains-push_cases, Contains-append_cases, Contains-append_right}
 use lib.IntN.{neg_ℤ-neg_ℤ}
 use Rattle.l2_cnf.specs.Trail.{AreOver}
@@ -118,7 +118,7 @@ visited_moved clauses old new before after a xs i kept h count handled visited =
       ];
     })
 
--- what was gone through and what is still to come list the clauses that watch a
+-- the whole of a list that is gone through still lists the clauses that watch a
 pub visited_listed : (clauses : List (List ℤ)) (pairs : List (ℤ × ℤ)) (trail : List ℤ) (a : ℤ) (xs : List ℕ) (i kept : ℕ) → AreVisited clauses pairs trail a (take kept xs) (drop i xs) → kept ≤ length xs → AreListed pairs a xs
 visited_listed clauses pairs trail a xs i kept visited within r h watches =
     let back : (q : ℕ) → Contains (take kept xs) q → Contains xs q = λ q (k, b, e).
@@ -130,6 +130,20 @@ visited_listed clauses pairs trail a xs i kept visited within r h watches =
       | inl e ↦ elim (visited.first r h e) [ inl rest ↦ later_one r rest | inr done ↦ back r done.0 ]
       | inr e ↦ elim (visited.second r h e) [ inl rest ↦ later_one r rest | inr done ↦ back r done.0 ]
     ]
+
+-- what was gone through and what is still to come list the clauses that watch a
+pub visited_rest : (clauses : List (List ℤ)) (pairs : List (ℤ × ℤ)) (trail : List ℤ) (a : ℤ) (done rest : List ℕ) → AreVisited clauses pairs trail a done rest → AreListed pairs a (done ++ rest)
+visited_rest clauses pairs trail a done rest visited r h watches = elim watches [
+  | inl e ↦ elim (visited.first r h e) [ inl later_one ↦ Contains-append_right done rest r later_one | inr met ↦ Contains-append_left done rest r met.0 ]
+  | inr e ↦ elim (visited.second r h e) [ inl later_one ↦ Contains-append_right done rest r later_one | inr met ↦ Contains-append_left done rest r met.0 ]
+]
+
+-- the same of entries
+pub visited_gap : (clauses : List (List ℤ)) (pairs : List (ℤ × ℤ)) (trail : List ℤ) (a : ℤ) (list new : List Entry) (i kept : ℕ) → new ≡ take kept list ++ drop i list → AreVisited clauses pairs trail a (take kept (indices_of list)) (drop i (indices_of list)) → AreListed pairs a (indices_of new)
+visited_gap clauses pairs trail a list new i kept e visited =
+    let same : take kept (indices_of list) ++ drop i (indices_of list) ≡ indices_of new =
+    ap₂ (λ x y. x ++ y) (take-map (λ x. x.clause) kept list) (drop-map (λ x. x.clause) i list) ∙ sym (map-append (λ x. x.clause) (take kept list) (drop i list)) ∙ ap indices_of (sym e) in
+    subst (AreListed pairs a) same (visited_rest clauses pairs trail a (take kept (indices_of list)) (drop i (indices_of list)) visited)
 
 -- dealing with a clause leaves no literal true with its negation
 pub handled_consistent : (clauses : List (List ℤ)) (n : ℕ) (old new : List ℤ) (before after : List (ℤ × ℤ)) (a : ℤ) (r : ℕ) (step : Step) → ((c : List ℤ) → Contains clauses c → AreOver n c) → IsConsistent old → IsHandled clauses old new before after a r step → IsConsistent new

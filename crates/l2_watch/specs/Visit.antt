@@ -92,3 +92,11 @@ AreFalse trail clause = (m : ℤ) → Contains clause m → Contains trail (neg_
 -- a clause isn't empty, and where it has one literal it is true
 abbrev pub IsRaised : List ℤ → List ℤ → ℤ × ℤ → Type 0
 IsRaised clause trail pair = (clause ≢ []) × (pair.0 ≡ pair.1 → Contains trail pair.0)
+
+-- a clause has at most one literal
+abbrev pub IsSingle : List ℤ → Type 0
+IsSingle clause = (l m : ℤ) → Contains clause l → Contains clause m → l ≡ m
+
+-- the clauses that have at most one literal are among these
+abbrev pub HasSingles : List (List ℤ) → List ℕ → Type 0
+HasSingles clauses singles = (r : ℕ) → r < length clauses → IsSingle (slice_index_or clauses r []) → Contains singles r

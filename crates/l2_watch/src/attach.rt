@@ -41,6 +41,17 @@ pub fn first_pair(clause: &[Lit]) -> (Lit, Lit)
     (first, first)
 }
 
+/// Notes the clause that comes next where its pair is one literal.
+pub fn note_single(singles: &mut Vec<u64>, a: Lit, b: Lit, clause: u64) -> Result<(), AllocError>
+    ensures kept { (r : ℕ) → Contains singles.old.items r → Contains singles.new.items r }
+    ensures noted { OnOk result (a ≡ b → Contains singles.new.items clause) }
+{
+    if a == b {
+        singles.push(clause)?;
+    }
+    Ok(())
+}
+
 /// Makes the lists so many, if they are fewer.
 pub fn widen(alloc: Global, lists: &mut Vec<Vec<Entry>>, count: usize) -> Result<(), AllocError>
     ensures more { AreMore (items_of lists.old.items) (items_of lists.new.items) }

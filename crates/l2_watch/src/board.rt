@@ -5,7 +5,7 @@ ghost use Rattle.l2_watch.specs.Watch.{IsClosed};
 ghost use Rattle.l2_watch.specs.Visit.{AreFalse};
 ghost use Rattle.l2_watch.specs.Board.{Board, IsBoard, IsDecided, IsLearnt, start_of};
 
-use crate::attach::{attach, first_pair, greatest, widen};
+use crate::attach::{attach, first_pair, greatest, note_single, widen};
 use crate::entry::{Entry, ShortLit};
 use crate::history::History;
 use crate::raise::raise;
@@ -23,6 +23,7 @@ pub struct Watch {
     clauses: ClauseList,
     pairs: Vec<(ShortLit, ShortLit)>,
     lists: Vec<Vec<Entry>>,
+    singles: Vec<u64>,
     history: History,
     levels: Vec<(usize, Lit)>,
     seen: usize,
@@ -32,7 +33,7 @@ pub struct Watch {
 
 impl Model for Watch {
     ghost use Rattle.std.specs.Prelude.{List};
-    ghost use Rattle.l2_watch.specs.Visit.{items_of, entries_of, AreAllEntries};
+    ghost use Rattle.l2_watch.specs.Visit.{items_of, entries_of, AreAllEntries, HasSingles};
     ghost use Rattle.l2_watch.specs.Board.{Board, IsKept};
 
     ghost Value = { Board };
@@ -40,7 +41,8 @@ impl Model for Watch {
     ghost view = { λ a. record { clauses = a.clauses; variables = a.variables; past = a.history; levels = a.levels.items; seen = a.seen; ready = a.ready } };
 
     ghost invariant = { λ a. (IsKept a.clauses a.variables a.pairs.items (items_of a.lists.items) a.history a.levels.items a.seen a.ready)
-        × (AreAllEntries a.clauses (entries_of a.lists.items)) };
+        × (AreAllEntries a.clauses (entries_of a.lists.items))
+        × (HasSingles a.clauses a.singles.items) };
 }
 
 impl Watch {
@@ -56,6 +58,7 @@ impl Watch {
             clauses: ClauseList::new(alloc),
             pairs: Vec::new(alloc),
             lists,
+            singles: Vec::new(alloc),
             history: History::new(alloc, 1)?,
             levels: Vec::new(alloc),
             seen: 0,
@@ -118,6 +121,8 @@ impl Watch {
         self.reset();
         self.cover(greatest(clause))?;
         let (a, b) = first_pair(clause);
+        let r = self.clauses.len();
+        note_single(&mut self.singles, a, b, r)?;
         attach(
             &mut self.clauses,
             &mut self.pairs,
@@ -192,7 +197,7 @@ impl Watch {
     {
         let _len = self.history.len();
         self.seen = 0;
-        match raise(&self.clauses, &self.pairs, &mut self.history) {
+        match raise(&self.clauses, &self.pairs, &self.singles, &mut self.history) {
             Some(r) => {
                 self.ready = false;
                 Some(r)
@@ -324,6 +329,7 @@ impl Watch {
     {
         let _len = self.history.len();
         let r = self.clauses.len();
+        note_single(&mut self.singles, u, w, r)?;
         attach(
             &mut self.clauses,
             &mut self.pairs,

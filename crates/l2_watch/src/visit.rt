@@ -1,4 +1,4 @@
-ghost use Rattle.std.specs.Prelude.{◌≡◌, ◌≢◌, ◌⊎◌, ◌≤◌, ◌<◌, ◌^◌, ◌+◌, ◌*◌, ◌++◌, ◌∷◌, [], ℕ, ℤ, pos, neg_ℤ, nat_abs, List, length, map, take, IfOk, OnOk, OnErr, IsTrue, ◌↔◌, Contains, slice_index_or, slice_set, MatchOption, MatchBool, Ok, Some, None};
+ghost use Rattle.std.specs.Prelude.{◌≡◌, ◌≢◌, ◌⊎◌, ◌≤◌, ◌<◌, ◌^◌, ◌+◌, ◌*◌, ◌++◌, ◌∷◌, [], ℕ, ℤ, pos, neg_ℤ, nat_abs, List, length, map, take, drop, IfOk, OnOk, OnErr, IsTrue, ◌↔◌, Contains, slice_index_or, slice_set, MatchOption, MatchBool, Ok, Some, None};
 ghost use Rattle.l2_watch.specs.Past.{Past, IsGrown};
 ghost use Rattle.l2_watch.specs.Watch.{IsConsistent, IsPair, IsGuarded};
 ghost use Rattle.l2_watch.specs.Visit.{items_of, entries_of, indices_of, ArePairs, AreFound, AreVisited, AreGuarded, AreListed, AreEntries, AreAllEntries, IsEntry, KeepsParts, IsOther};
@@ -92,6 +92,17 @@ pub fn handle(
     }
 }
 
+/// Takes out what lies between two places of a list.
+fn close_gap(list: &mut Vec<Entry>, from: usize, to: usize)
+    requires order { from ≤ to }
+    requires within { to ≤ length list.old.items }
+    ensures { list.new.items ≡ take from list.old.items ++ drop to list.old.items }
+{
+    let len = list.len() - (to - from);
+    list.copy_within(to.., from);
+    list.truncate(len);
+}
+
 /// Goes through the list of a, which is false, and keeps in it the clauses that still watch a.
 /// It answers a clause whose literals are all false, if it comes upon one.
 pub fn visit_list(
@@ -137,7 +148,10 @@ pub fn visit_list(
                 kept += 1;
             }
             Step::Moved => {}
-            Step::Conflict => return Ok(Some(u64::from(clause))),
+            Step::Conflict => {
+                close_gap(list, kept, i);
+                return Ok(Some(u64::from(clause)));
+            }
         }
     }
     list.truncate(kept);

@@ -6,133 +6,133 @@ use Rattle.l2_build.specs.Parts.{parts_of, size_of}
 use Rattle.l2_build.proofs.+build.Given as goal
 
 abbrev pub decreases-expressions::with_unary : goal.decreases-expressions::with_unary
-decreases-expressions::with_unary l = 8 * size_of l.parts.now
+decreases-expressions::with_unary l = 16 * size_of l.parts.now
 
 abbrev pub decreases-expressions::with_update : goal.decreases-expressions::with_update
-decreases-expressions::with_update l = 8 * size_of l.parts.now
+decreases-expressions::with_update l = 16 * size_of l.parts.now
 
 abbrev pub decreases-expressions::with_size : goal.decreases-expressions::with_size
-decreases-expressions::with_size l = 8 * size_of l.parts.now
+decreases-expressions::with_size l = 16 * size_of l.parts.now
 
 abbrev pub decreases-expressions::with_cast : goal.decreases-expressions::with_cast
-decreases-expressions::with_cast l = 8 * (size_of l.type_name.now + size_of l.parts.now)
+decreases-expressions::with_cast l = 16 * (size_of l.type_name.now + size_of l.parts.now)
 
 abbrev pub decreases-expressions::with_parenthesis : goal.decreases-expressions::with_parenthesis
-decreases-expressions::with_parenthesis l = 8 * size_of l.parts.now
+decreases-expressions::with_parenthesis l = 16 * size_of l.parts.now
 
 abbrev pub decreases-expressions::opened : goal.decreases-expressions::opened
-decreases-expressions::opened l = 8 * size_of l.parts.now + 1
+decreases-expressions::opened l = 16 * size_of l.parts.now + 1
 
 abbrev pub decreases-expressions::expr_of : goal.decreases-expressions::expr_of
-decreases-expressions::expr_of l = 8 * size_of l.parts.now + 3
+decreases-expressions::expr_of l = 16 * size_of l.parts.now + 3
 
 abbrev pub decreases-operands::with_binary : goal.decreases-operands::with_binary
-decreases-operands::with_binary l = 8 * size_of l.parts.now
+decreases-operands::with_binary l = 16 * size_of l.parts.now
 
 abbrev pub decreases-operands::with_assignment : goal.decreases-operands::with_assignment
-decreases-operands::with_assignment l = 8 * size_of l.parts.now
+decreases-operands::with_assignment l = 16 * size_of l.parts.now
 
 abbrev pub decreases-operands::with_comma : goal.decreases-operands::with_comma
-decreases-operands::with_comma l = 8 * size_of l.parts.now
+decreases-operands::with_comma l = 16 * size_of l.parts.now
 
 abbrev pub decreases-operands::with_index : goal.decreases-operands::with_index
-decreases-operands::with_index l = 8 * size_of l.parts.now
+decreases-operands::with_index l = 16 * size_of l.parts.now
 
 abbrev pub decreases-operands::with_choice : goal.decreases-operands::with_choice
-decreases-operands::with_choice l = 8 * size_of l.parts.now
+decreases-operands::with_choice l = 16 * size_of l.parts.now
 
 abbrev pub decreases-operands::behind_argument : goal.decreases-operands::behind_argument
-decreases-operands::behind_argument l = 8 * size_of l.parts.now
+decreases-operands::behind_argument l = 16 * size_of l.parts.now
 
 abbrev pub decreases-operands::with_call : goal.decreases-operands::with_call
-decreases-operands::with_call l = 8 * size_of l.parts.now
+decreases-operands::with_call l = 16 * size_of l.parts.now
 
 abbrev pub decreases-operands::continued : goal.decreases-operands::continued
-decreases-operands::continued l = 8 * size_of l.parts.now + 1
+decreases-operands::continued l = 16 * size_of l.parts.now + 1
 
 abbrev pub decreases-operands::tail : goal.decreases-operands::tail
-decreases-operands::tail l = 8 * size_of l.parts.now + 2
+decreases-operands::tail l = 16 * size_of l.parts.now + 2
 
 abbrev pub decreases-specifiers::members : goal.decreases-specifiers::members
-decreases-specifiers::members l = 8 * size_of l.parts.now
+decreases-specifiers::members l = 16 * size_of l.parts.now
 
 abbrev pub decreases-specifiers::struct_body : goal.decreases-specifiers::struct_body
-decreases-specifiers::struct_body l = 8 * size_of l.parts.now
+decreases-specifiers::struct_body l = 16 * size_of l.parts.now
 
 abbrev pub decreases-specifiers::struct_tag : goal.decreases-specifiers::struct_tag
-decreases-specifiers::struct_tag l = 8 * size_of l.parts.now + 1
+decreases-specifiers::struct_tag l = 16 * size_of l.parts.now + 1
 
 abbrev pub decreases-specifiers::enumerator : goal.decreases-specifiers::enumerator
-decreases-specifiers::enumerator l = 8 * size_of l.parts.now
+decreases-specifiers::enumerator l = 16 * size_of l.parts.now + 1
 
 abbrev pub decreases-specifiers::enumerators : goal.decreases-specifiers::enumerators
-decreases-specifiers::enumerators l = 8 * size_of l.parts.now + 1
+decreases-specifiers::enumerators l = 16 * size_of l.parts.now + 2
 
 abbrev pub decreases-specifiers::enum_body : goal.decreases-specifiers::enum_body
-decreases-specifiers::enum_body l = 8 * size_of l.parts.now + 2
+decreases-specifiers::enum_body l = 16 * size_of l.parts.now + 3
 
 abbrev pub decreases-specifiers::enum_tag : goal.decreases-specifiers::enum_tag
-decreases-specifiers::enum_tag l = 8 * size_of l.parts.now + 3
+decreases-specifiers::enum_tag l = 16 * size_of l.parts.now + 4
 
 abbrev pub decreases-specifiers::struct_of : goal.decreases-specifiers::struct_of
-decreases-specifiers::struct_of l = 8 * size_of l.parts.now + 4
+decreases-specifiers::struct_of l = 16 * size_of l.parts.now + 4
 
 abbrev pub decreases-specifiers::enum_of : goal.decreases-specifiers::enum_of
-decreases-specifiers::enum_of l = 8 * size_of l.parts.now + 4
+decreases-specifiers::enum_of l = 16 * size_of l.parts.now + 5
 
 abbrev pub decreases-specifiers::specifier : goal.decreases-specifiers::specifier
-decreases-specifiers::specifier l = 8 * size_of l.parts.now + 5
+decreases-specifiers::specifier l = 16 * size_of l.parts.now + 6
 
 abbrev pub decreases-specifiers::specifiers_of : goal.decreases-specifiers::specifiers_of
-decreases-specifiers::specifiers_of l = 8 * size_of l.parts.now + 6
+decreases-specifiers::specifiers_of l = 16 * size_of l.parts.now + 7
 
 abbrev pub decreases-declarators::group : goal.decreases-declarators::group
-decreases-declarators::group l = 8 * (size_of l.inner.now + size_of l.parts.now)
+decreases-declarators::group l = 16 * (size_of l.inner.now + size_of l.parts.now)
 
 abbrev pub decreases-declarators::core_of : goal.decreases-declarators::core_of
-decreases-declarators::core_of l = 8 * size_of l.parts.now + 1
+decreases-declarators::core_of l = 16 * size_of l.parts.now + 1
 
 abbrev pub decreases-declarators::array : goal.decreases-declarators::array
-decreases-declarators::array l = 8 * size_of l.parts.now
+decreases-declarators::array l = 16 * size_of l.parts.now
 
 abbrev pub decreases-declarators::behind_parameter : goal.decreases-declarators::behind_parameter
-decreases-declarators::behind_parameter l = 8 * size_of l.parts.now
+decreases-declarators::behind_parameter l = 16 * size_of l.parts.now
 
 abbrev pub decreases-declarators::parameters : goal.decreases-declarators::parameters
-decreases-declarators::parameters l = 8 * size_of l.parts.now
+decreases-declarators::parameters l = 16 * size_of l.parts.now
 
 abbrev pub decreases-declarators::suffix : goal.decreases-declarators::suffix
-decreases-declarators::suffix l = 8 * size_of l.parts.now + 1
+decreases-declarators::suffix l = 16 * size_of l.parts.now + 1
 
 abbrev pub decreases-declarators::suffixes_of : goal.decreases-declarators::suffixes_of
-decreases-declarators::suffixes_of l = 8 * size_of l.parts.now + 2
+decreases-declarators::suffixes_of l = 16 * size_of l.parts.now + 2
 
 abbrev pub decreases-declarators::declarator_of : goal.decreases-declarators::declarator_of
-decreases-declarators::declarator_of l = 8 * size_of l.parts.now + 3
+decreases-declarators::declarator_of l = 16 * size_of l.parts.now + 3
 
 abbrev pub decreases-types::parameter_of : goal.decreases-types::parameter_of
-decreases-types::parameter_of l = 8 * size_of l.parts.now + 7
+decreases-types::parameter_of l = 16 * size_of l.parts.now + 8
 
 abbrev pub decreases-types::type_name_of : goal.decreases-types::type_name_of
-decreases-types::type_name_of l = 8 * size_of l.parts.now
+decreases-types::type_name_of l = 16 * size_of l.parts.now
 
 abbrev pub decreases-initialisers::behind_item : goal.decreases-initialisers::behind_item
-decreases-initialisers::behind_item l = 8 * size_of l.parts.now
+decreases-initialisers::behind_item l = 16 * size_of l.parts.now
 
 abbrev pub decreases-initialisers::initialiser_of : goal.decreases-initialisers::initialiser_of
-decreases-initialisers::initialiser_of l = 8 * size_of l.parts.now + 4
+decreases-initialisers::initialiser_of l = 16 * size_of l.parts.now + 4
 
 abbrev pub decreases-declarations::one_declared : goal.decreases-declarations::one_declared
-decreases-declarations::one_declared l = 8 * size_of l.parts.now
+decreases-declarations::one_declared l = 16 * size_of l.parts.now
 
 abbrev pub decreases-declarations::declarators : goal.decreases-declarations::declarators
-decreases-declarations::declarators l = 8 * size_of l.parts.now + 1
+decreases-declarations::declarators l = 16 * size_of l.parts.now + 1
 
 abbrev pub decreases-declarations::declared : goal.decreases-declarations::declared
-decreases-declarations::declared l = 8 * size_of l.parts.now + 2
+decreases-declarations::declared l = 16 * size_of l.parts.now + 3
 
 abbrev pub decreases-declarations::declaration_of : goal.decreases-declarations::declaration_of
-decreases-declarations::declaration_of l = 8 * size_of l.parts.now + 7
+decreases-declarations::declaration_of l = 16 * size_of l.parts.now + 8
 
 abbrev pub invariant-operands::behind_argument-loop-mark : goal.invariant-operands::behind_argument-loop-mark
 invariant-operands::behind_argument-loop-mark l = record {
@@ -215,3 +215,23 @@ invariant-declarations::declarators-loop-all l = record {
 abbrev pub decreases-declarations::declarators-loop-all : goal.decreases-declarations::declarators-loop-all
 decreases-declarations::declarators-loop-all l = size_of l.left
 
+abbrev pub decreases-operands::indexed : goal.decreases-operands::indexed
+decreases-operands::indexed l = 16 * (size_of l.inner.now + size_of l.parts.now)
+
+abbrev pub decreases-operands::chosen : goal.decreases-operands::chosen
+decreases-operands::chosen l = 16 * (size_of l.inner.now + size_of l.parts.now)
+
+abbrev pub decreases-declarators::array_of : goal.decreases-declarators::array_of
+decreases-declarators::array_of l = 16 * (size_of l.inner.now + size_of l.parts.now)
+
+abbrev pub decreases-declarators::next_parameter : goal.decreases-declarators::next_parameter
+decreases-declarators::next_parameter l = 16 * size_of l.parts.now
+
+abbrev pub decreases-specifiers::valued : goal.decreases-specifiers::valued
+decreases-specifiers::valued l = 16 * size_of l.parts.now
+
+abbrev pub decreases-declarations::with_initialiser : goal.decreases-declarations::with_initialiser
+decreases-declarations::with_initialiser l = 16 * size_of l.parts.now
+
+abbrev pub decreases-declarations::declarator_list : goal.decreases-declarations::declarator_list
+decreases-declarations::declarator_list l = 16 * size_of l.parts.now + 2

@@ -6,4 +6,10 @@ use Rattle.l2_parse_unit.proofs.Wholes.{never_unbuilt, built_run}
 use Rattle.l2_parse_unit.proofs.built.externals.Goals as goal
 
 pub returns-in-Ok : goal.returns-in-Ok
-returns-in-Ok c = ?
+returns-in-Ok c =
+    built_run c.unit_run_law.ensures c.args.text.now (map external_tree c.in-Ok.parts.items) c.requires.unit c.requires.keeps
+    (ap (λ xs. unit_of (parts_of xs)) (sym c.deref.ensures.value) ∙ c.in-Ok.ensures.ok)
+
+pub unreachable-requires-in-Misfit : goal.unreachable-requires-in-Misfit
+unreachable-requires-in-Misfit c =
+    never_unbuilt c.unit_built_law.ensures c.args.text.now c.requires.unit (ap (λ xs. unit_of (parts_of xs)) (sym c.deref.ensures.value) ∙ c.in-Err.ensures.err (λ h. cc))

@@ -60,7 +60,7 @@ act_each-returns-in_err-act-clause-does t c =
     let rest = or_rest (λ from. act_all g true from (checked_trees (drop (c.loop-s.s-index + 1) c.args.all.now))) in
     does_residual (λ u. Next) whole c.args.m.now c.act.new.m c.from_residual.result f c.from_residual.ensures.0 c.from_residual.ensures.1
     (does_err {A = Unit {0}} {C = Unit {0}} (λ u. Next) (λ u. Next) whole (act g true (checked_tree c.s-item.result)) rest c.args.m.now c.loop-s.m c.act.new.m f
-      (sym c.loop-s.invariant.0 ∙ ap (λ all. act_all g true None (checked_trees all) c.loop-s.m) (items_from c.args.all.now c.loop-s.s-index c.s-item.result c.loop-s-test.true c.s-item.is)) c.in_err-act.ensures.does)
+    (sym c.loop-s.invariant.0 ∙ ap (λ all. act_all g true None (checked_trees all) c.loop-s.m) (items_from c.args.all.now c.loop-s.s-index c.s-item.result c.loop-s-test.true c.s-item.is)) c.in_err-act.ensures.does)
 
 pub act_each-loop-s-preserved : goal.act_each-loop-s-preserved
 act_each-loop-s-preserved t c =

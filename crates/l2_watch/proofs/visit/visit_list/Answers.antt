@@ -6,8 +6,8 @@ use Rattle.l2_watch.specs.declared.entry.Entry.{Entry}
 use Rattle.l2_watch.specs.Visit.{AreGuarded, ArePairs, indices_of}
 use Rattle.l2_watch.specs.Handled.{IsHandled}
 use Rattle.l2_watch.specs.declared.visit.Step.TheVariants.{Keeps, Moved}
-use Rattle.l2_watch.proofs.Visits.{handled_consistent, visited_keeps, visited_moved, visited_listed, visited_all, visited_done, parts_then}
-use Rattle.l2_watch.proofs.Entries.{entries_set, entries_take}
+use Rattle.l2_watch.proofs.Visits.{handled_consistent, visited_keeps, visited_moved, visited_listed, visited_gap, visited_all, visited_done, parts_then}
+use Rattle.l2_watch.proofs.Entries.{entries_set, entries_take, entries_gap}
 use Rattle.l2_watch.proofs.Pasts.{IsGrown-then, grown_part}
 use Rattle.l2_watch.proofs.visit.visit_list.Goals as goal
 use Rattle.l2_watch.proofs.visit.visit_list.Goals.{in-Keeps, in-Moved, After-handle}
@@ -73,7 +73,10 @@ pub returns-in-Conflict-clause-listed : goal.returns-in-Conflict-clause-listed
 returns-in-Conflict-clause-listed c =
     let list : List Entry = c.loop-i.list.items in
     let handled = subst (IsHandled c.args.clauses.now c.loop-i.history.literals c.handle.new.history.literals c.loop-i.pairs.items c.handle.new.pairs.items c.args.a c.index-entry.result.now.clause) c.in-Conflict.is c.in_ok-blocker.ensures.handled in
-    rw handled.2 (visited_listed c.args.clauses.now c.loop-i.pairs.items c.loop-i.history.literals c.args.a (indices_of list) c.loop-i.i c.loop-i.kept c.loop-i.invariant.visited (omega (arith, c.loop-i.invariant.kept, length-map list (λ e. e.clause))))
+    rw handled.2 (visited_gap c.args.clauses.now c.loop-i.pairs.items c.loop-i.history.literals c.args.a list c.close_gap.new.list.items c.loop-i.i c.loop-i.kept c.close_gap.ensures c.loop-i.invariant.visited)
+
+pub returns-in-Conflict-clause-entries : goal.returns-in-Conflict-clause-entries
+returns-in-Conflict-clause-entries c = rw c.close_gap.ensures (entries_gap c.args.clauses.now c.loop-i.list.items c.loop-i.kept c.loop-i.i (omega (arith, c.loop-i.invariant.kept)) (omega arith) c.loop-i.invariant.entries)
 
 pub returns-in-Conflict-clause-conflict : goal.returns-in-Conflict-clause-conflict
 returns-in-Conflict-clause-conflict c = λ r e.

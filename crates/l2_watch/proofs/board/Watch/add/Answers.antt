@@ -1,10 +1,11 @@
-use Rattle.std.proofs.Common.{inl, inr, ◌≡◌, ◌≤◌, ◌*◌, ◌+◌, sym, ap, ◌∙◌, arith, length, false, ◌++◌, ◌∷◌, []}
-use Rattle.std.specs.Prelude.{nat_abs}
+use Rattle.std.proofs.Common.{subst, inl, inr, ◌≡◌, ◌≤◌, ◌*◌, ◌+◌, sym, ap, ◌∙◌, arith, length, false, ◌++◌, ◌∷◌, []}
+use Rattle.std.specs.Prelude.{nat_abs, Contains}
 use Rattle.l2_watch.proofs.Entries.{items_length}
 use Rattle.l2_cnf.specs.Trail.{AreOver}
 use Rattle.l2_watch.specs.Visit.{items_of}
 use Rattle.l2_watch.specs.Board.{AreStored}
 use Rattle.l2_watch.proofs.Boards.{IsKept-more, IsKept-attach, AreStored-attach, code_in, pair_over, over_more}
+use Rattle.l2_watch.proofs.Singles.{singles_more, singles_push, single_pair}
 use Rattle.l2_watch.proofs.board.Watch.add.Goals as goal
 use Rattle.l2_watch.proofs.board.Watch.add.Goals.{After-self}
 
@@ -38,13 +39,14 @@ attach-requires-clause-stands c = elim c.first_pair-a.ensures.pair [ inl none �
 pub attach-requires-clause-entered : goal.attach-requires-clause-entered
 attach-requires-clause-entered c = c.self.invariant.1
 
-pub invariant_of-self : goal.invariant_of-self
-invariant_of-self c =
+pub invariant_of-self-in_err-attach : goal.invariant_of-self-in_err-attach
+invariant_of-self-in_err-attach c =
     let was = c.self.inside in (
       rw ((c.in_err-attach.ensures.same).0, (c.in_err-attach.ensures.same).1)
           (IsKept-more was.clauses was.variables was.pairs.items (items_of was.lists.items) (items_of c.attach.new.lists.items) was.history was.levels.items was.seen was.ready c.self.invariant.0 c.attach.ensures.more
           (omega (arith, c.attach.ensures.len, items_length was.lists.items, items_length c.attach.new.lists.items))),
       c.attach.ensures.entered,
+      rw c.in_err-attach.ensures.same.0 (singles_more was.clauses was.singles.items c.note_single.new.singles.items c.note_single.ensures.kept c.self.invariant.2),
     )
 
 pub invariant_of-self-2 : goal.invariant_of-self-2
@@ -59,4 +61,11 @@ invariant_of-self-2 c =
       IsKept-attach was.clauses c.attach.new.clauses was.variables was.pairs.items c.attach.new.pairs.items (items_of was.lists.items) (items_of c.attach.new.lists.items) was.history was.levels.items was.seen was.ready c.args.clause.now c.self.invariant.0 idle
           (rw (told.clauses, told.pairs) stored) told.clauses,
       c.attach.ensures.entered,
+      rw told.clauses (singles_push was.clauses c.args.clause.now was.singles.items c.note_single.new.singles.items c.first_pair-a.result.0 c.first_pair-a.result.1 c.note_single.ensures.kept
+          (λ e. subst (Contains c.note_single.new.singles.items) c.len-r.ensures.len (c.in_ok-note_single.ensures.noted e)) (single_pair c.args.clause.now c.first_pair-a.result.0 c.first_pair-a.result.1 c.first_pair-a.ensures.pair c.first_pair-a.ensures.none) c.self.invariant.2),
     )
+
+pub invariant_of-self : goal.invariant_of-self
+invariant_of-self c =
+    let was = c.self.inside in
+    (c.self.invariant.0, c.self.invariant.1, singles_more was.clauses was.singles.items c.note_single.new.singles.items c.note_single.ensures.kept c.self.invariant.2)

@@ -14,4 +14,5 @@ invariant_of-self c =
       IsKept-back was.clauses was.variables was.pairs.items (items_of was.lists.items) was.history c.cut.new.self was.levels.items c.truncate.new.self.items was.seen was.ready c.args.level c.index.result.now.0 c.self.invariant.0
           (ap (λ b. b.ready) c.self.view_is ∙ c.requires.ready) within start c.truncate.ensures.items c.cut.ensures.literals c.cut.ensures.reasons c.cut.ensures.variables,
       c.self.invariant.1,
+      c.self.invariant.2,
     )

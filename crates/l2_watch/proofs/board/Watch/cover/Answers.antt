@@ -13,6 +13,7 @@ invariant_of-self-then-var-self c =
           (omega (arith, c.widen.ensures.longer, items_length was.lists.items, items_length c.widen.new.lists.items))
           (omega (arith, same, c.if-var-self.true)) (omega arith) (omega (arith, c.in_ok-widen.ensures.len, items_length c.widen.new.lists.items)) idle,
       c.widen.ensures.entered was.clauses c.self-then-var-self.invariant.1,
+      c.self-then-var-self.invariant.2,
     )
 
 pub invariant_of-self : goal.invariant_of-self
@@ -21,4 +22,5 @@ invariant_of-self c =
       IsKept-more was.clauses was.variables was.pairs.items (items_of was.lists.items) (items_of c.widen.new.lists.items) was.history was.levels.items was.seen was.ready c.self-then-var-self.invariant.0 c.widen.ensures.more
           (omega (arith, c.widen.ensures.longer, items_length was.lists.items, items_length c.widen.new.lists.items)),
       c.widen.ensures.entered was.clauses c.self-then-var-self.invariant.1,
+      c.self-then-var-self.invariant.2,
     )

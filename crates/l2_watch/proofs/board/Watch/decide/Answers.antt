@@ -33,6 +33,7 @@ invariant_of-self-then-not-is_true c =
           let at : k ≡ length old = omega (arith, low, high, n) in
           (at, ap (λ x. get_or x k (pos 0)) le ∙ get_or_push old c.args.l (pos 0) k (sym at), ap (λ x. get_or x k 0) re ∙ get_or_push was.history.reasons 0 0 k (omega (arith, at, c.len-start.ensures.count))))),
       c.self.invariant.1,
+      c.self.invariant.2,
     )
 
 pub invariant_of-self-else-not-is_true : goal.invariant_of-self-else-not-is_true
@@ -49,4 +50,5 @@ invariant_of-self-else-not-is_true c =
           (λ k h. refl)
           (λ k low high. absurd (omega (arith, low, high)))),
       c.self.invariant.1,
+      c.self.invariant.2,
     )

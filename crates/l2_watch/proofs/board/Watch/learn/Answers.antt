@@ -6,6 +6,7 @@ use Rattle.l2_cnf.proofs.Laws.{same_variable}
 use Rattle.l2_watch.specs.Visit.{items_of}
 use Rattle.l2_watch.specs.Board.{IsLearnt, AreStored}
 use Rattle.l2_watch.proofs.Boards.{IsKept-learn, IsKept-more, AreStored-attach, learnt_pair, code_in}
+use Rattle.l2_watch.proofs.Singles.{singles_more, singles_push}
 use Rattle.l2_watch.proofs.board.Watch.learn.Goals as goal
 use Rattle.l2_watch.proofs.board.Watch.learn.Goals.{After-len-r}
 
@@ -36,13 +37,14 @@ attach-requires-clause-stands c = (let d = (goal.at.attach-requires-clause-stand
 pub attach-requires-clause-entered : goal.attach-requires-clause-entered
 attach-requires-clause-entered c = c.self.invariant.1
 
-pub invariant_of-self : goal.invariant_of-self
-invariant_of-self c =
+pub invariant_of-self-in_err-attach : goal.invariant_of-self-in_err-attach
+invariant_of-self-in_err-attach c =
     let was = c.self.inside in (
       rw ((c.in_err-attach.ensures.same).0, (c.in_err-attach.ensures.same).1)
           (IsKept-more was.clauses was.variables was.pairs.items (items_of was.lists.items) (items_of c.attach.new.lists.items) was.history was.levels.items was.seen was.ready c.self.invariant.0 c.attach.ensures.more
           (omega (arith, c.attach.ensures.len, items_length was.lists.items, items_length c.attach.new.lists.items))),
       c.attach.ensures.entered,
+      rw c.in_err-attach.ensures.same.0 (singles_more was.clauses was.singles.items c.note_single.new.singles.items c.note_single.ensures.kept c.self.invariant.2),
     )
 
 pub push-requires-clause-over : goal.push-requires-clause-over
@@ -73,4 +75,11 @@ invariant_of-self-2 c =
           (rw (told.clauses, told.pairs) stored) c.len-len.ensures.count told.clauses told.pairs c.push.ensures.literals
           (c.push.ensures.reasons ∙ ap (λ n. was.history.reasons ++ (n + 1) ∷ []) c.len-r.ensures.len) c.push.ensures.variables,
       c.attach.ensures.entered,
+      rw told.clauses (singles_push was.clauses c.args.clause.now was.singles.items c.note_single.new.singles.items c.args.u c.args.w c.note_single.ensures.kept
+          (λ e. subst (Contains c.note_single.new.singles.items) c.len-r.ensures.len (c.in_ok-note_single.ensures.noted e)) (λ single. single c.args.u c.args.w (learnt d).first (learnt d).second) c.self.invariant.2),
     )
+
+pub invariant_of-self : goal.invariant_of-self
+invariant_of-self c =
+    let was = c.self.inside in
+    (c.self.invariant.0, c.self.invariant.1, singles_more was.clauses was.singles.items c.note_single.new.singles.items c.note_single.ensures.kept c.self.invariant.2)

@@ -4,7 +4,7 @@ use Rattle.std.proofs.lemmas.List.{map-set, get_or-map, get_or_default, length-s
 use lib.IntN.{neg_ℤ-neg_ℤ}
 use Rattle.l2_cnf.specs.Lit.{code_of}
 use Rattle.l2_cnf.proofs.Laws.{nat_abs-neg_ℤ}
-use Rattle.l2_watch.specs.Visit.{items_of, entries_of, indices_of, list_of, ArePairs, AreFound, AreVisited, AreGuarded, AreEntries, AreAllEntries}
+use Rattle.l2_watch.specs.Visit.{items_of, entries_of, indices_of, list_of, ArePairs, AreFound, AreVisited, AreGuarded, AreEntries, AreAllEntries, HasSingles}
 use Rattle.l2_watch.specs.Board.{IsKept, AreWatched}
 use Rattle.l2_watch.proofs.Moves.{code_within}
 use Rattle.l2_watch.proofs.Entries.{items_length, entered_with, no_entry}
@@ -102,7 +102,8 @@ back_is c = map-set (λ v. indices_of v.items) c.visit_list-answer.new.lists.ite
 -- what is kept where so many literals were looked at
 kept : (c : After-visit_list-answer) → c.self.inside.ready ≡ true → nat_abs c.negated-a.result ≤ c.self.inside.variables → (seen : ℕ) → seen ≤ length c.visit_list-answer.new.history.literals → AreGuarded c.self.inside.clauses c.visit_list-answer.new.pairs.items (take seen c.visit_list-answer.new.history.literals) c.visit_list-answer.new.history.literals
     → (IsKept c.self.inside.clauses c.self.inside.variables c.visit_list-answer.new.pairs.items (items_of (set c.visit_list-answer.new.lists.items c.code-code.result c.visit_list-answer.new.list)) c.visit_list-answer.new.history c.self.inside.levels.items seen c.self.inside.ready)
-    × AreAllEntries c.self.inside.clauses (entries_of (set c.visit_list-answer.new.lists.items c.code-code.result c.visit_list-answer.new.list))
+    × (AreAllEntries c.self.inside.clauses (entries_of (set c.visit_list-answer.new.lists.items c.code-code.result c.visit_list-answer.new.list)))
+    × (HasSingles c.self.inside.clauses c.self.inside.singles.items)
 kept c is over seen looked guarded =
     let was = c.self.inside in
     let now = c.visit_list-answer.new in (
@@ -110,6 +111,7 @@ kept c is over seen looked guarded =
           (kept_round was.clauses was.variables was.pairs.items now.pairs.items (items_of was.lists.items) (items_of now.lists.items) (indices_of now.list.items) was.history now.history was.levels.items was.seen seen was.ready c.negated-a.result c.self.invariant.0 is over (same_count c)
           c.visit_list-answer.ensures.grown c.visit_list-answer.ensures.pairs c.visit_list-answer.ensures.found c.visit_list-answer.ensures.listed c.visit_list-answer.ensures.parts looked guarded),
       entered_with was.clauses now.lists.items c.code-code.result now.list c.visit_list-answer.ensures.entered c.visit_list-answer.ensures.entries,
+      c.self.invariant.2,
     )
 
 still : (c : After-visit_list-answer) → c.self.inside.seen < length c.self.inside.history.literals → (take c.self.inside.seen c.visit_list-answer.new.history.literals ≡ take c.self.inside.seen c.self.inside.history.literals) × (c.self.inside.seen < length c.visit_list-answer.new.history.literals)

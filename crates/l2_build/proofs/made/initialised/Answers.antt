@@ -1,7 +1,0 @@
-use Rattle.std.proofs.Common.{ap, ◌∙◌}
-use Rattle.l2_tree.specs.Units.{declared_tree}
-use Rattle.l2_tree.proofs.Declarations.{declared_tree-Initialised}
-use Rattle.l2_build.proofs.made.initialised.Goals as goal
-
-pub returns-clause-ok : goal.returns-clause-ok
-returns-clause-ok c = ap declared_tree c.in_ok-new.ensures.ok ∙ declared_tree-Initialised c.args.declarator c.args.place c.args.value

@@ -1,0 +1,4 @@
+pub mod Domains
+pub mod Forms
+pub mod Points
+pub mod Rows
