@@ -1,7 +1,6 @@
 -- A list of externals grows at its end.
 use Rattle.std.proofs.Common.{◌≡◌, List, [], ◌∷◌, ◌++◌, map, refl, ap}
 use Rattle.l2_tree.specs.declared.unit.External.{External}
-use Rattle.l2_tree.specs.Trees.{ExternalTree}
 use Rattle.l2_tree.specs.Units.{external_tree}
 
 pub externals_more : (xs : List External) (x : External) → map external_tree (xs ++ (x ∷ [])) ≡ map external_tree xs ++ (external_tree x ∷ [])

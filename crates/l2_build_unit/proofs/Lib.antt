@@ -1,4 +1,5 @@
 pub mod Labels
 pub mod Lasts
 pub mod Grown
-pub mod Goes
+pub mod Branching
+pub mod Results

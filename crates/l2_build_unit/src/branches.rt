@@ -93,10 +93,8 @@ fn test_and_body<'a>(alloc: Global, parts: &'a [Syntax]) -> Result<Controlled<'a
     let Next::Node(inner, rest) = split(behind) else {
         return Err(BuildError::Misfit);
     };
-    match behind_test(alloc, bracket, inner, rest) {
-        Ok(whole) => Ok(whole),
-        Err(fault) => Err(fault),
-    }
+    let whole = behind_test(alloc, bracket, inner, rest)?;
+    Ok(whole)
 }
 
 /// Behind an `if` or `else if`, with the place of the `if`.

@@ -1,9 +1,9 @@
 // Statements without others in them.
 ghost use Rattle.std.specs.Prelude.{◌≡◌, ◌≢◌, ◌≤◌, ◌∷◌, IfOk, IfErr, None, Some};
-ghost use Rattle.l2_tree.specs.Build.{leaf, node, built, and_then, before_semicolon as before_semicolon_so, plain_stmt as as_plain, evaluated as evaluated_so, returns as returns_so, perhaps_until as perhaps_so, first as first_so, do_while as do_while_so, semicolon as semicolon_so, first_of as first_of_so};
+ghost use Rattle.l2_tree.specs.Build.{leaf, node, built, before_semicolon as before_semicolon_so, plain_stmt as as_plain, evaluated as evaluated_so, returns as returns_so, perhaps_until as perhaps_so, first as first_so, do_while as do_while_so, semicolon as semicolon_so, first_of as first_of_so};
 ghost use Rattle.l2_tree.specs.Units.{stmt_tree, first_tree, perhaps_tree};
 ghost use Rattle.l2_build.specs.Parts.{parts_of, size_of};
-ghost use Rattle.l2_build_unit.specs.Statements.{perhaps_parts, with_first};
+ghost use Rattle.l2_build_unit.specs.Statements.{perhaps_parts, first_expression};
 
 use l2_build::{BuildError, Next, declaration_of, expr_of, specifies, split};
 use l2_networks::is;
@@ -108,7 +108,7 @@ pub fn returns(alloc: Global, place: Place, parts: &[Syntax]) -> Result<Box<Stmt
     }
 }
 
-/// A `do`, behind the token behind its test's bracket, which is to be the semicolon.
+/// A `do` with all its parts, if its marks are such and nothing is left.
 fn do_with(
     alloc: Global,
     place: Place,
@@ -118,10 +118,10 @@ fn do_with(
     inner: &[Syntax],
     close: Token,
     end: Token,
-    parts: &[Syntax],
+    last: &[Syntax],
 ) -> Result<Box<Stmt>, BuildError>
-    ensures ok { IfOk result (λ t. do_while_so place (stmt_tree body.value) (leaf word.kind word.place ∷ leaf bracket.kind bracket.place ∷ node (built (parts_of inner.now)) ∷ leaf close.kind close.place ∷ leaf end.kind end.place ∷ parts_of parts.now) ≡ Some (stmt_tree t.value)) }
-    ensures err { IfErr result (λ e. e ≢ BuildError.NoMemory → do_while_so place (stmt_tree body.value) (leaf word.kind word.place ∷ leaf bracket.kind bracket.place ∷ node (built (parts_of inner.now)) ∷ leaf close.kind close.place ∷ leaf end.kind end.place ∷ parts_of parts.now) ≡ None) }
+    ensures ok { IfOk result (λ t. do_while_so place (stmt_tree body.value) (leaf word.kind word.place ∷ leaf bracket.kind bracket.place ∷ node (built (parts_of inner.now)) ∷ leaf close.kind close.place ∷ leaf end.kind end.place ∷ parts_of last.now) ≡ Some (stmt_tree t.value)) }
+    ensures err { IfErr result (λ e. e ≢ BuildError.NoMemory → do_while_so place (stmt_tree body.value) (leaf word.kind word.place ∷ leaf bracket.kind bracket.place ∷ node (built (parts_of inner.now)) ∷ leaf close.kind close.place ∷ leaf end.kind end.place ∷ parts_of last.now) ≡ None) }
 {
     if !is(Mark::While, word.kind) {
         return Err(BuildError::Misfit);
@@ -136,7 +136,7 @@ fn do_with(
         return Err(BuildError::Misfit);
     }
     let test = expr_of(alloc, inner)?;
-    let Next::End = split(parts) else {
+    let Next::End = split(last) else {
         return Err(BuildError::Misfit);
     };
     let whole = Box::new(
@@ -240,9 +240,9 @@ fn first_of(value: Option<Box<Expr>>) -> First
 
 /// Perhaps an expression as the first part of a `for`, with its semicolon.
 fn first_plain<'a>(alloc: Global, parts: &'a [Syntax]) -> Result<Started<'a>, BuildError>
-    ensures ok { IfOk result (λ r. and_then (perhaps_so Mark.Semicolon (parts_of parts.now)) with_first ≡ Some (first_tree r.first, parts_of r.rest.now)) }
+    ensures ok { IfOk result (λ r. first_expression (parts_of parts.now) ≡ Some (first_tree r.first, parts_of r.rest.now)) }
     ensures less { IfOk result (λ r. size_of r.rest.now ≤ size_of parts.now) }
-    ensures err { IfErr result (λ e. e ≢ BuildError.NoMemory → and_then (perhaps_so Mark.Semicolon (parts_of parts.now)) with_first ≡ None) }
+    ensures err { IfErr result (λ e. e ≢ BuildError.NoMemory → first_expression (parts_of parts.now) ≡ None) }
 {
     let Perhaps { value, rest } = perhaps_until(alloc, Mark::Semicolon, parts)?;
     Ok(Started {

@@ -1,9 +1,8 @@
 // The externals of a text.
-ghost use Rattle.std.specs.Prelude.{◌≡◌, ◌≢◌, ◌∷◌, false, map, IfOk, IfErr, None, Some};
-ghost use Rattle.l2_tree.specs.Build.{leaf, node, built, declarator_of as as_declarator, items as items_so, external_of as as_external, external_behind as external_so, declared as declared_so, and_then, unit_of as as_unit};
+ghost use Rattle.std.specs.Prelude.{◌≡◌, ◌≢◌, ◌∷◌, map, IfOk, IfErr, None, Some};
+ghost use Rattle.l2_tree.specs.Build.{node, built, declarator_of as as_declarator, items as items_so, external_of as as_external, external_behind as external_so, declared as declared_so, and_then, unit_of as as_unit};
 ghost use Rattle.l2_tree.specs.Trees.{Global as global_tree, Function as function_tree, no_stmts};
 ghost use Rattle.l2_tree.specs.Units.{external_tree, specifiers_tree};
-ghost use Rattle.l2_grammar.specs.Marks.{is as is_mark};
 ghost use Rattle.l2_build.specs.Parts.{parts_of};
 
 use crate::starts::is_end;
@@ -13,7 +12,7 @@ use l2_build::{
 };
 use l2_networks::is;
 use l2_reader::Syntax;
-use l2_syntax::{Mark, Place, Token};
+use l2_syntax::{Mark, Place};
 use l2_tree::{External, Specifiers};
 use std::alloc::Global;
 
@@ -51,29 +50,6 @@ fn function(
     Ok(whole)
 }
 
-/// A declaration at file scope, behind whose first declarator no brace stands.
-fn plain_global(
-    alloc: Global,
-    specifiers: Specifiers,
-    inner: &[Syntax],
-    brace: Token,
-    body: &[Syntax],
-    parts: &[Syntax],
-) -> Result<Box<External>, BuildError>
-    requires parts { parts_of parts.now ≡ node (built (parts_of inner.now)) ∷ leaf brace.kind brace.place ∷ parts_of body.now }
-    requires brace { is_mark Mark.OpenBrace brace.kind ≡ false }
-    ensures ok { IfOk result (λ x. external_so (specifiers_tree specifiers) (parts_of parts.now) ≡ Some (external_tree x.value)) }
-    ensures err { IfErr result (λ e. e ≢ BuildError.NoMemory → external_so (specifiers_tree specifiers) (parts_of parts.now) ≡ None) }
-{
-    let _ = inner;
-    let _ = brace;
-    let _ = body;
-    match global_declaration(alloc, specifiers, parts) {
-        Ok(whole) => Ok(whole),
-        Err(fault) => Err(fault),
-    }
-}
-
 /// A function's definition or a declaration, where a declarator stands behind the specifiers.
 fn defined_or(
     alloc: Global,
@@ -92,7 +68,7 @@ fn defined_or(
                 let whole = function(alloc, specifiers, inner, brace.place, body)?;
                 return Ok(whole);
             }
-            let whole = plain_global(alloc, specifiers, inner, brace, body, parts)?;
+            let whole = global_declaration(alloc, specifiers, parts)?;
             Ok(whole)
         }
         Next::Node(_, _) | Next::End => {

@@ -1,4 +1,4 @@
-use Rattle.std.proofs.Common.{◌≡◌, ◌+◌, ◌*◌, ◌≤◌, ◌<◌, None, Some}
+use Rattle.std.proofs.Common.{◌≡◌, ◌+◌, ◌*◌, ◌≤◌, ◌<◌, None}
 use Rattle.l2_tree.specs.Build.{branch, behind_branch, items}
 use Rattle.l2_tree.specs.Trees.{no_stmts}
 use Rattle.l2_tree.specs.Units.{stmts_onto, branches_tree}

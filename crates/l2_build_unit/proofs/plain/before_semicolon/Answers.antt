@@ -1,4 +1,4 @@
-use Rattle.std.proofs.Common.{◌≡◌, ◌≤◌, ◌-◌, true, false, cond, Some, None, length, take, refl, ap, sym, ◌∙◌, arith}
+use Rattle.std.proofs.Common.{◌≡◌, true, false, cond, Some, None, refl, ap, sym, ◌∙◌, take, length, ◌-◌, arith}
 use Rattle.l2_syntax.specs.declared.token.Mark.TheVariants as mark
 use Rattle.l2_grammar.specs.Marks.{is}
 use Rattle.l2_build.specs.Parts.{parts_of}
@@ -7,14 +7,12 @@ use Rattle.l2_build_unit.proofs.plain.before_semicolon.Goals as goal
 
 pub returns-then-is : goal.returns-then-is
 returns-then-is c =
-    let m : is mark.Semicolon c.in-Token.token.kind ≡ true = first_of (cc, grind arith) in
-    let h : 1 ≤ length c.args.parts.now = omega arith in
-    sym (ends_token c.args.parts.now (length c.args.parts.now - 1) c.index-parts-count.result c.in-Token.token h refl c.index-parts-count.is c.in-Token.is
-    ∙ ap (λ b. cond b (Some (parts_of (take (length c.args.parts.now - 1) c.args.parts.now))) None) m)
+    let e : is mark.Semicolon c.in-Token.token.kind ≡ true = cc in
+    sym (ends_token c.args.parts.now (length c.args.parts.now - 1) c.index-parts-count.result c.in-Token.token (omega arith) refl c.index-parts-count.is c.in-Token.is
+    ∙ ap (λ b. cond b (Some (parts_of (take (length c.args.parts.now - 1) c.args.parts.now))) None) e)
 
 pub returns-else-is : goal.returns-else-is
 returns-else-is c =
-    let m : is mark.Semicolon c.in-Token.token.kind ≡ false = first_of (cc, grind arith) in
-    let h : 1 ≤ length c.args.parts.now = omega arith in
-    sym (ends_token c.args.parts.now (length c.args.parts.now - 1) c.index-parts-count.result c.in-Token.token h refl c.index-parts-count.is c.in-Token.is
-    ∙ ap (λ b. cond b (Some (parts_of (take (length c.args.parts.now - 1) c.args.parts.now))) None) m)
+    let e : is mark.Semicolon c.in-Token.token.kind ≡ false = cc in
+    sym (ends_token c.args.parts.now (length c.args.parts.now - 1) c.index-parts-count.result c.in-Token.token (omega arith) refl c.index-parts-count.is c.in-Token.is
+    ∙ ap (λ b. cond b (Some (parts_of (take (length c.args.parts.now - 1) c.args.parts.now))) None) e)
