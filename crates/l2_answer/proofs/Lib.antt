@@ -2,4 +2,3 @@ pub mod Listed
 pub mod Requests
 pub mod Statuses
 pub mod Texts
-pub mod Unique

@@ -42,8 +42,3 @@ pub data Prints (files : Option Files) (before now : ℕ) (words : List (List �
 abbrev pub StatusLaw : Type 0
 StatusLaw = (files : Option Files) (before now : ℕ) (words : List (List ℕ)) (status : Status) (line : List ℕ) → Answers files before now words status line →
     (status ≢ WriteFault) × (status ≢ NoMemory)
-
--- where files are told and no count of faults rose, words have one answer at most
-abbrev pub OneAnswerLaw : Type 0
-OneAnswerLaw = (files : Files) (before now : ℕ) (words : List (List ℕ)) (s t : Status) (k l : List ℕ) → ¬ Rose before now →
-    Answers (Some files) before now words s k → Answers (Some files) before now words t l → (s ≡ t) × (k ≡ l)

@@ -9,5 +9,5 @@ mod replay_answer;
 mod status;
 
 pub use answering::answer;
-pub use laws::{one_answer_law, status_law};
+pub use laws::status_law;
 pub use status::{Answer, Status};

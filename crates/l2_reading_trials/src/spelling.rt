@@ -28,19 +28,28 @@ fn escaped(rest: &[u8]) -> (u8, usize)
     }
 }
 
+/// The byte that stands at an index, and the index behind it.
+fn byte_at(spelt: &[u8], at: usize) -> (u8, usize)
+    requires { at < length spelt.now }
+    ensures later { at < result.1 }
+    ensures within { result.1 ≤ length spelt.now }
+{
+    if spelt[at] != b'\\' {
+        return (spelt[at], at + 1);
+    }
+    let (byte, length) = escaped(&spelt[at + 1..]);
+    (byte, at + 1 + length)
+}
+
 /// The bytes that a text spells.
 pub fn bytes(alloc: Global, text: &str) -> Result<Vec<u8>, AllocError> {
     let spelt = text.as_bytes();
     let mut all = Vec::new(alloc);
     let mut at = 0;
     while at < spelt.len() {
-        let (byte, length) = if spelt[at] == b'\\' {
-            escaped(&spelt[at + 1..])
-        } else {
-            (spelt[at], 0)
-        };
+        let (byte, behind) = byte_at(spelt, at);
         all.push(byte)?;
-        at += 1 + length;
+        at = behind;
     }
     Ok(all)
 }
