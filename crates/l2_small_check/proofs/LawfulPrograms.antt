@@ -2,11 +2,9 @@
 use Rattle.std.proofs.Common.{◌≡◌, ℕ, zero, suc, ◌+◌, ◌<◌, ◌≤◌, Bool, true, false, if◌then◌else◌, ℤ, List, [], ◌∷◌, ◌++◌, length, map, Option, Some, None, inl, inr, refl, ap, sym, ◌∙◌, subst, arith, append-nil, append_assoc}
 use Rattle.std.specs.Prelude.{Result, Ok, Err, IfOk, codes, option_map, ◌==◌, ◌||◌, nat_lt, slice_get}
 use Rattle.std.proofs.Math.Seq.{get_or-append_seam, take-append_seam, take-length}
-use Rattle.std.proofs.lemmas.List.{length-append}
 use Rattle.std.specs.Str.{bytes_eq}
 use Rattle.l2_syntax.specs.declared.place.Place.{Place}
 use Rattle.l2_syntax.specs.declared.token.Name.{Name}
-use Rattle.l2_bits.specs.declared.types.Ty.{Ty}
 use Rattle.l2_bits.specs.Types.{int_type}
 use Rattle.l2_bits.specs.Values.{is_value}
 use Rattle.l2_bits.proofs.Bounds.{value_from_test}
@@ -15,7 +13,7 @@ use Rattle.l2_runs.specs.declared.cells.CellType.TheVariants.{Integer}
 use Rattle.l2_runs.specs.declared.cells.CellValue.TheVariants as cell
 use Rattle.l2_runs.specs.declared.operators.UnaryOperator.{UnaryOperator}
 use Rattle.l2_runs.specs.declared.operators.BinaryOperator.{BinaryOperator}
-use Rattle.l2_runs.specs.Numbers.{index_of, at_index, at_number, numbers_where}
+use Rattle.l2_runs.specs.Numbers.{at_number, numbers_where}
 use Rattle.l2_program.specs.declared.program.Kind.TheVariants.{Assertion}
 use Rattle.l2_program.specs.declared.program.ObjectInfo.{ObjectInfo}
 use Rattle.l2_program.specs.declared.program.LoopInfo.{LoopInfo}
@@ -26,7 +24,7 @@ use Rattle.l2_program.specs.Types.{type_of, given, is_computing, is_arithmetic}
 use Rattle.l2_program.specs.Names.{checks_of, unless_none, declared_in, all_declared_in, loops_in, all_loops_in, checks_in, all_checks_in}
 use Rattle.l2_program.specs.declared.program.Program.{Program}
 use Rattle.l2_program.specs.Programs.{ProgramTree, FunctionTree, program_tree}
-use Rattle.l2_meaning.specs.Execution.{known_cells, cells_of, main_among}
+use Rattle.l2_meaning.specs.Execution.{known_cells, cells_of}
 use Rattle.l2_meaning.specs.Lawful.{IsIn, IsScalar, IsTyped, IsTypedStatement, AreTyped, Listing, IsOfKind, HasChecks, StatementHasChecks, HaveChecks, IsScoped, IsScopedStatement, AreScoped, behind, is_static_object, statics_of, main_result, IsSome, IsLawfulFunction, IsLawful, HoldObject, HoldStatics, HaveCells, cell_count}
 use Rattle.l2_small.specs.SmallForm.{and_then}
 use Rattle.l2_small.specs.SmallTrees as small
@@ -34,7 +32,7 @@ use Rattle.l2_small.specs.SmallTrees.{SmallExprTree, SmallStmtTree, SmallStmtTre
 use Rattle.l2_small_check.specs.declared.entry.Entry.{Entry}
 use Rattle.l2_small_check.specs.Elaboration.{Scope, Found, Elaborated, lookup, int_cell, variable, read_of, assignment, assertion, loop, stays, made, within, typed, declare, is_declared, most_cells, object_number, loop_number, check_number, with_loop, with_check, chain, block, item, items, nothing_found, main_name, main_function, program_with, program_of}
 use Rattle.l2_small_check.specs.Spelling.{found_in}
-use Rattle.l2_small_check.proofs.Spelt.{Begins, at_last, Grows, grows_not, grows_trans, few_objects}
+use Rattle.l2_small_check.proofs.Spelt.{at_last, Grows, grows_not, grows_trans, few_objects}
 
 -- ---- numbers of the items of lists
 
