@@ -2,7 +2,7 @@ pub mod Open
 pub mod Deep
 pub mod Depths
 mod Refused
-pub mod Refusals
+pub mod OneRefusal
 pub mod Places
 mod Unique
 pub mod Wholes

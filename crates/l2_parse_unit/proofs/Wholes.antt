@@ -57,8 +57,8 @@ stopped_behind_all r ps u f e s h t =
     lexical f t (record { unit = u; rest = []; spells = subst (λ x. grammar.Spells x u) (e ∙ sym (nil_right (kept r.list))) s }) (plain_shallow r.list ps u e s h)
 
 -- what was read is built
-pub never_unbuilt : UnitBuiltLaw → (o : Open) → grammar.IsUnit (tree_of o) → unit_of (list_parts o.parts.items) ≡ None → ⊥
-never_unbuilt law o u e = law (tree_of o) u (ap unit_of (open_parts o) ∙ e)
+pub never_unbuilt : UnitBuiltLaw → (o : Open) → grammar.IsUnit (tree_of o) → Keeps (tree_of o) → unit_of (list_parts o.parts.items) ≡ None → ⊥
+never_unbuilt law o u k e = law (tree_of o) u k (ap unit_of (open_parts o) ∙ e)
 
 -- and spells what it was read from
 pub built_run : UnitRunLaw → (o : Open) (xs : List ExternalTree) → grammar.IsUnit (tree_of o) → Keeps (tree_of o) → unit_of (list_parts o.parts.items) ≡ Some xs → run_unit xs ≡ tree_of o
