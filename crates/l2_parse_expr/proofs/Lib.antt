@@ -1,2 +1,2 @@
 mod Places
-pub mod Built
+pub mod BuiltExpressions

@@ -12,8 +12,8 @@ use Rattle.l2_parse_expr.proofs.reading.expression.Goals as goal
 plain_is : (read all list tokens : List Token) → read ≡ all → map seen all ≡ kept list → list ≡ tokens → map seen read ≡ kept tokens
 plain_is read all list tokens d e f = ap (map seen) d ∙ e ∙ ap kept f
 
-pub expression-requires-in-Ok-clause-keeps : goal.expression-requires-in-Ok-clause-keeps
-expression-requires-in-Ok-clause-keeps c =
+pub expression_of-requires-clause-keeps : goal.expression_of-requires-clause-keeps
+expression_of-requires-clause-keeps c =
     tree_keeps c.args.level c.args.depth c.args.tokens.now.list c.deref.result.now c.args.at (tree_of c.in-Ok.text) (seen_from c.in-Ok.end c.deref.result.now)
     (plain_is c.deref.result.now c.in_ok-plain.plain.items c.as_slice.result.now c.args.tokens.now.list c.deref.ensures.value c.in_ok-plain.ensures c.as_slice.ensures) c.in-Ok.ensures.ok
 
