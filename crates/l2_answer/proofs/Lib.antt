@@ -1,3 +1,4 @@
+pub mod Executions
 pub mod Listed
 pub mod Requests
 pub mod Statuses
