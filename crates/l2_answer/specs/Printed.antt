@@ -7,7 +7,7 @@ use Rattle.l2_runs.specs.declared.outcome.Outcome.{Outcome}
 use Rattle.l2_runs.specs.declared.outcome.Outcome.TheVariants.{Ended, Stopped, Broken, OutOfChoices, OutOfTurns}
 use Rattle.l2_runs.specs.Numbers.{at_number}
 use Rattle.l2_program.specs.declared.program.CheckInfo.{CheckInfo}
-use Rattle.l2_program.specs.Kinds.{kind_text}
+use Rattle.l2_runs.specs.Kinds.{kind_text}
 use Rattle.l2_meaning.specs.Lawful.{IsSome}
 
 -- a broken check, by its kind and its place

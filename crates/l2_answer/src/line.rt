@@ -1,5 +1,5 @@
 ghost use Rattle.std.specs.Prelude.{◌≡◌, ◌++◌, Some, codes, decimal, IfOk, OnOk, string_bytes};
-ghost use Rattle.l2_program.specs.Kinds.{kind_text};
+ghost use Rattle.l2_runs.specs.Kinds.{kind_text};
 ghost use Rattle.l2_syntax.specs.Places.{place_text};
 ghost use Rattle.l2_syntax.specs.Refusals.{rule_text};
 ghost use Rattle.l2_answer.specs.Printed.{outcome_text, broken_text, replay_line, refusal_line, ListsBroken};

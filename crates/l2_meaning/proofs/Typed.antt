@@ -17,8 +17,8 @@ use Rattle.l2_runs.specs.Operators.{unary, binary, unary_overflows, binary_overf
 use Rattle.l2_runs.specs.Keeps.{ResultFits, Keeps, Anything, LimitKeeps}
 use Rattle.l2_runs.proofs.Stores.{from, from_next, fits_seam, fits_read}
 use Rattle.l2_runs.proofs.Keeping.{then_keep, done_keep, over_keep, either_keep, choose_keep, write_keep, enliven_keep, bury_all_keep, check_keep, Turned, loop_keep}
-use Rattle.l2_program.specs.declared.program.Kind.{Kind}
-use Rattle.l2_program.specs.declared.program.Kind.TheVariants.{Assertion, Overflow}
+use Rattle.l2_runs.specs.declared.kind.Kind.{Kind}
+use Rattle.l2_runs.specs.declared.kind.Kind.TheVariants.{Assertion, Overflow}
 use Rattle.l2_program.specs.declared.program.CheckInfo.{CheckInfo}
 use Rattle.l2_program.specs.Checked.{Object, TypedTree, Constant, Choice, Read, Unary, Binary, Convert, Assign, Assert, CheckedTree, Block, Declare, Static, Initialise, Label, Evaluate, If, IfElse, While, Return, CheckedTrees, none, more}
 use Rattle.l2_program.specs.Types.{type_of, is_computing, is_arithmetic}

@@ -6,8 +6,8 @@ use Rattle.l2_runs.specs.declared.cells.CellType.{CellType}
 use Rattle.l2_runs.specs.declared.cells.CellType.TheVariants.{Integer, Pointer}
 use Rattle.l2_runs.specs.Numbers.{at_number, numbers_where}
 use Rattle.l2_runs.specs.Fits.{Layout, CellFits}
-use Rattle.l2_program.specs.declared.program.Kind.{Kind}
-use Rattle.l2_program.specs.declared.program.Kind.TheVariants.{Assertion, Overflow}
+use Rattle.l2_runs.specs.declared.kind.Kind.{Kind}
+use Rattle.l2_runs.specs.declared.kind.Kind.TheVariants.{Assertion, Overflow}
 use Rattle.l2_program.specs.declared.program.ObjectInfo.{ObjectInfo}
 use Rattle.l2_program.specs.declared.program.LoopInfo.{LoopInfo}
 use Rattle.l2_program.specs.declared.program.CheckInfo.{CheckInfo}

@@ -1,5 +1,4 @@
 pub mod Checked
 pub mod Types
 pub mod Names
-pub mod Kinds
 pub mod Programs

@@ -5,4 +5,4 @@ mod checked;
 mod program;
 
 pub use checked::{Checked, Lvalue, Typed};
-pub use program::{CheckInfo, FunctionInfo, Kind, LoopInfo, ObjectInfo, Program, StaticValue};
+pub use program::{CheckInfo, FunctionInfo, LoopInfo, ObjectInfo, Program, StaticValue};

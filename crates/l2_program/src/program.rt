@@ -1,45 +1,7 @@
-ghost use Rattle.std.specs.Prelude.{◌≡◌};
-ghost use Rattle.l2_program.specs.Kinds.{kind_text};
-
 use crate::checked::Checked;
 use l2_bits::List;
-use l2_runs::{CellType, CellValue};
+use l2_runs::{CellType, CellValue, Kind};
 use l2_syntax::{Name, Place};
-
-/// The ten kinds of check, in their order at one place.
-#[derive(Clone, Copy, Debug, PartialEq, Eq)]
-pub enum Kind {
-    Assertion,
-    Bounds,
-    Null,
-    Invalid,
-    Lifetime,
-    Pointer,
-    Object,
-    Division,
-    Shift,
-    Overflow,
-}
-
-impl Kind {
-    /// The kind's name, as it is printed.
-    pub fn name(self) -> &'static str
-        ensures { result.now ≡ kind_text self }
-    {
-        match self {
-            Kind::Assertion => "assertion",
-            Kind::Bounds => "bounds",
-            Kind::Null => "null",
-            Kind::Invalid => "invalid",
-            Kind::Lifetime => "lifetime",
-            Kind::Pointer => "pointer",
-            Kind::Object => "object",
-            Kind::Division => "division",
-            Kind::Shift => "shift",
-            Kind::Overflow => "overflow",
-        }
-    }
-}
 
 /// A variable or parameter: its name's number and place, its cells in order, whether its storage is static, and its function (0 for file scope).
 #[derive(Debug, Drop)]

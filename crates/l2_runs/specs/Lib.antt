@@ -5,3 +5,6 @@ pub mod Runs
 pub mod Loops
 pub mod Keeps
 pub mod Operators
+pub mod Kinds
+pub mod Members
+pub mod Back

@@ -3,11 +3,15 @@
 #![tactic(auto)]
 
 mod cells;
+mod kind;
+mod member;
 mod numbers;
 mod operators;
 mod outcome;
 
 pub use cells::{CellType, CellValue};
+pub use kind::Kind;
+pub use member::Member;
 pub use numbers::index_of;
 pub use operators::{BinaryOperator, UnaryOperator};
 pub use outcome::Outcome;

@@ -14,7 +14,7 @@ use Rattle.l2_runs.specs.declared.cells.CellValue.TheVariants as cell
 use Rattle.l2_runs.specs.declared.operators.UnaryOperator.{UnaryOperator}
 use Rattle.l2_runs.specs.declared.operators.BinaryOperator.{BinaryOperator}
 use Rattle.l2_runs.specs.Numbers.{at_number, numbers_where}
-use Rattle.l2_program.specs.declared.program.Kind.TheVariants.{Assertion}
+use Rattle.l2_runs.specs.declared.kind.Kind.TheVariants.{Assertion}
 use Rattle.l2_program.specs.declared.program.ObjectInfo.{ObjectInfo}
 use Rattle.l2_program.specs.declared.program.LoopInfo.{LoopInfo}
 use Rattle.l2_program.specs.declared.program.CheckInfo.{CheckInfo}

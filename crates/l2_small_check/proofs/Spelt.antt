@@ -8,7 +8,7 @@ use Rattle.l2_bits.specs.Types.{int_type}
 use Rattle.l2_bits.specs.Values.{is_value}
 use Rattle.l2_runs.specs.declared.cells.CellValue.TheVariants as cell
 use Rattle.l2_runs.specs.Numbers.{at_number}
-use Rattle.l2_program.specs.declared.program.Kind.TheVariants.{Assertion}
+use Rattle.l2_runs.specs.declared.kind.Kind.TheVariants.{Assertion}
 use Rattle.l2_runs.specs.declared.operators.UnaryOperator.{UnaryOperator}
 use Rattle.l2_runs.specs.declared.operators.BinaryOperator.{BinaryOperator}
 use Rattle.l2_program.specs.declared.program.ObjectInfo.{ObjectInfo}

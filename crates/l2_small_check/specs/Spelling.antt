@@ -3,7 +3,7 @@ use Rattle.std.specs.Prelude.{◌≡◌, ℕ, pos, false, List, [], ◌∷◌, m
 use Rattle.l2_syntax.specs.declared.place.Place.{Place}
 use Rattle.l2_runs.specs.declared.cells.CellValue.TheVariants as cell
 use Rattle.l2_runs.specs.Numbers.{at_number}
-use Rattle.l2_program.specs.declared.program.Kind.TheVariants.{Assertion}
+use Rattle.l2_runs.specs.declared.kind.Kind.TheVariants.{Assertion}
 use Rattle.l2_program.specs.declared.program.ObjectInfo.{ObjectInfo}
 use Rattle.l2_program.specs.declared.program.LoopInfo.{LoopInfo}
 use Rattle.l2_program.specs.declared.program.CheckInfo.{CheckInfo}

@@ -1,7 +1,7 @@
 -- How a kind of check is printed.
 use Rattle.std.specs.Prelude.{ℕ, List, codes}
-use Rattle.l2_program.specs.declared.program.Kind.{Kind}
-use Rattle.l2_program.specs.declared.program.Kind.TheVariants.{Assertion, Bounds, Null, Invalid, Lifetime, Pointer, Object, Division, Shift, Overflow}
+use Rattle.l2_runs.specs.declared.kind.Kind.{Kind}
+use Rattle.l2_runs.specs.declared.kind.Kind.TheVariants.{Assertion, Bounds, Null, Invalid, Lifetime, Pointer, Object, Division, Shift, Overflow}
 
 abbrev pub kind_text : Kind → List ℕ
 kind_text Assertion = codes "assertion"
