@@ -8,6 +8,7 @@ use Rattle.l2_program.specs.declared.program.LoopInfo.{LoopInfo}
 use Rattle.l2_program.specs.Checked.{TypedTree, Constant, Choice, Read, Unary, Binary, Convert, Assign, Assert, CheckedTree, Block, Declare, Static, Initialise, Label, Evaluate, If, IfElse, While, Return, CheckedTrees, none, more}
 use Rattle.l2_program.specs.Names.{lvalue_names}
 use Rattle.l2_program.specs.Programs.{ProgramTree, FunctionTree}
+use Rattle.l2_meaning.specs.declared.sets.LoopSets.{LoopSets}
 use Rattle.l2_meaning.specs.Execution.{cells_of}
 use Rattle.l2_meaning.specs.Rising.{rising}
 use Rattle.l2_meaning.specs.Scopes.{behind, statics_of}
@@ -45,12 +46,6 @@ abbrev mutual
 
 -- ---- sets of loops
 
--- a loop's number, the objects that it may change, and its variables
-pub record LoopSets : Type 0 where
-  pub loop : ℕ
-  pub mods : List ℕ
-  pub vars : List ℕ
-
 abbrev pub is_integer : List CellType → Bool
 is_integer [] = false
 is_integer (Integer ty ∷ []) = true
@@ -68,7 +63,7 @@ is_variable cells is_static scope n = is_integer (cells n) && (is_static n || is
 -- the sets of a loop that changes and names these, where this is its scope
 abbrev pub sets_of_loop : Layout → (ℕ → Bool) → List ℕ → ℕ → List ℕ → List ℕ → LoopSets
 sets_of_loop cells is_static scope l changed named =
-    record { loop = l; mods = rising changed; vars = rising (filter (is_variable cells is_static scope) (changed ++ named)) }
+    record { number = l; mods = rising changed; vars = rising (filter (is_variable cells is_static scope) (changed ++ named)) }
 
 abbrev mutual
   -- the sets of the loops of a statement, in the order of the text
@@ -101,7 +96,7 @@ HasSets (Some info) s = (info.mods ≡ s.mods) × (info.vars ≡ s.vars)
 -- these sets are those of the loops of their numbers
 abbrev pub HaveSets : List LoopInfo → List LoopSets → Type 0
 HaveSets loops [] = Unit {0}
-HaveSets loops (s ∷ rest) = HasSets (at_number loops s.loop) s × HaveSets loops rest
+HaveSets loops (s ∷ rest) = HasSets (at_number loops s.number) s × HaveSets loops rest
 
 abbrev pub functions_loop_sets : ProgramTree → List FunctionTree → List LoopSets
 functions_loop_sets p [] = []
