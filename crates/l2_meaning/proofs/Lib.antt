@@ -1,5 +1,6 @@
 pub mod Numbers
 pub mod Orders
 pub mod Loops
+pub mod Nowhere
 pub mod Typed
 pub mod Starts
