@@ -1,13 +1,12 @@
 -- Without pointer cells nothing points anywhere.
-use Rattle.std.proofs.Common.{◌≡◌, ℕ, Bool, true, false, List, [], ◌∷◌, refl, ap, sym, ◌∙◌, subst}
+use Rattle.std.proofs.Common.{◌≡◌, ℕ, Bool, true, false, List, [], ◌∷◌, refl, ap, sym, ◌∙◌}
 use Rattle.std.specs.Prelude.{◌&&◌}
-use Rattle.l2_bits.specs.declared.types.Ty.{Ty}
 use Rattle.l2_runs.specs.declared.cells.CellType.{CellType}
 use Rattle.l2_runs.specs.declared.cells.CellType.TheVariants.{Integer, Pointer}
 use Rattle.l2_runs.specs.declared.cells.CellValue.{CellValue}
 use Rattle.l2_runs.specs.declared.cells.CellValue.TheVariants as value
 use Rattle.l2_runs.specs.declared.member.Member.{Member}
-use Rattle.l2_runs.specs.Members.{targets, Within}
+use Rattle.l2_runs.specs.Members.{targets}
 use Rattle.l2_runs.specs.Fits.{Layout, CellFits}
 use Rattle.l2_program.specs.Checked.{LvalueTree, Object, TypedTree, Constant, Choice, Read, Unary, Binary, Convert, Assign, Assert, CheckedTree, Block, Declare, Static, Initialise, Label, Evaluate, If, IfElse, While, Return, CheckedTrees, none, more}
 use Rattle.l2_program.specs.Types.{type_of}

@@ -1,5 +1,5 @@
 -- Programs whose trees are typed, name what is in scope, and have what the lists say.
-use Rattle.std.specs.Prelude.{◌≡◌, ℕ, suc, ◌+◌, ◌<◌, ◌≤◌, ◌==◌, Bool, true, false, ◌&&◌, List, [], ◌∷◌, ◌++◌, length, map, Option, Some, None, ◌⊎◌}
+use Rattle.std.specs.Prelude.{◌≡◌, ℕ, suc, ◌+◌, ◌<◌, ◌≤◌, ◌==◌, Bool, true, false, ◌&&◌, List, [], ◌∷◌, ◌++◌, length, map, Option, Some, None, ◌⊎◌, All}
 use Rattle.l2_bits.specs.declared.types.Ty.{Ty}
 use Rattle.l2_bits.specs.Types.{int_type}
 use Rattle.l2_runs.specs.declared.cells.CellType.{CellType}
@@ -21,7 +21,8 @@ use Rattle.l2_program.specs.Programs.{ProgramTree, FunctionTree}
 use Rattle.l2_meaning.specs.Execution.{cells_of, main_among}
 use Rattle.l2_meaning.specs.Scopes.{behind, statics_of}
 use Rattle.l2_meaning.specs.Pointing.{Sets, ArePointsTo}
-use Rattle.l2_meaning.specs.Changes.{function_loop_sets, HaveSets}
+use Rattle.l2_meaning.specs.Rising.{Rise}
+use Rattle.l2_meaning.specs.Changes.{is_integer, function_loop_sets, HaveSets}
 
 abbrev pub IsIn : ℕ → List ℕ → Type 0
 IsIn n [] = ⊥
@@ -257,3 +258,10 @@ pub record IsLawful (p : ProgramTree) : Type 0 where
 -- one of the program's checks
 abbrev pub IsCheckOf : ProgramTree → ℕ → Type 0
 IsCheckOf p c = IsSome (at_number p.checks c)
+
+-- a loop's sets rise; what it may change are objects with cells, and its variables are objects of one integer cell
+pub record AreOfObjects (cells : Layout) (info : LoopInfo) : Type 0 where
+  pub mods_rise : Rise info.mods
+  pub vars_rise : Rise info.vars
+  pub changed : All (λ n. 0 < length (cells n)) info.mods
+  pub variables : All (λ n. is_integer (cells n) ≡ true) info.vars
