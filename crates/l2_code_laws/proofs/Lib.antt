@@ -1,0 +1,4 @@
+pub mod Preserving
+pub mod Values
+pub mod Stores
+pub mod Acts
