@@ -97,3 +97,102 @@ module _ (names : Names) (f : Family) (small : (n : ℕ) → length (names.objec
   compute_known types same scope t store n (Pointers op a b) h z k =
       pointers_known names.objects (f.temp n) op (operand_value t a) (operand_value t b) (operand_type scope t Pointer a h.0 k) (operand_type scope t Pointer b h.1 k)
   compute_known types same scope t store n (Passes test) h z k = truth_known names.objects (f.temp n) (passes types store t test)
+
+  stuck_holds : {A : Type 0} (P : A → Type 0) (x : Option A) → IfSome x P → (s : State) → Inv s.store → ResultHolds Inv P (or_stuck x s)
+  stuck_holds P None h s k = k
+  stuck_holds P (Some x) h s k = (h, k)
+
+  stuck_keep : {A : Type 0} (P : A → Type 0) (x : Option A) → IfSome x P → Preserves Inv P (or_stuck x)
+  stuck_keep P x h = record { by = λ s k. stuck_holds P x h s k }
+
+  same_number : (n : ℕ) → (n == n) ≡ true
+  same_number n = grind arith
+
+  -- the object at which an operand points is one that it may be
+  pointed_set : (scope : Scope) (t : Temps) (a : Operand) (o i : ℕ) → operand_value t a ≡ At o i → Held scope t → may_be f a (Object o) ≡ true
+  pointed_set scope t a o i e k =
+      operand_set scope t a k (Object o) (subst (λ (v : CellValue). targets v (Object o) ≡ true) (sym e) (same_number o))
+
+  module _ (g : Setting) (same : g.types.objects ≡ names.objects) where
+    read_keep : (scope : Scope) (t : Temps) (n : ℕ) (ty : CellType) (a : Operand) → IsClosedAction f (action.Read n ty a) → Held scope t
+        → (at : Address) → Found names.objects ty (operand_value t a) at → Preserves Inv (IsKnown names.objects (f.temp n) (value_of ty)) (read at)
+    read_keep scope t n ty a z k at found = record { by = λ s i. (held s i, i) }
+      where
+        held : (s : State) → Inv s.store → IsKnown names.objects (f.temp n) (value_of ty) (Rattle.l2_runs.specs.Store.cell_at s.store at)
+        held s i =
+            let h = hold_read names.objects f s.store at found.type found.there i in
+            (constants_back names.objects ty found.type _ found.same h.0, λ e. absurd (no e), λ m e. z at.object (pointed_set scope t a at.object at.offset found.is k) m (h.1 m e))
+          where
+            no : false ≡ true → ⊥
+            no e = cc
+
+    cell_found : (ty : CellType) (v : CellValue) → IfSome (cell_of g.types.objects ty v) (Found names.objects ty v)
+    cell_found ty v = subst (λ (cells : Layout). IfSome (cell_of cells ty v) (Found names.objects ty v)) (sym same) (found names.objects ty v)
+
+    write_held : (scope : Scope) (t : Temps) (ty : CellType) (a x : Operand) → IsOperand names.objects scope ty x → IsClosedAction f (action.Write ty a x) → Held scope t
+        → (at : Address) → Found names.objects ty (operand_value t a) at → Preserves Inv Anything (write at (operand_value t x))
+    write_held scope t ty a x h z k at found =
+        write_keep Inv at (operand_value t x) (λ st i. hold_write names.objects f st at found.type (operand_value t x) found.there
+            (same_constants names.objects ty found.type (operand_value t x) found.same (operand_type scope t ty x h k),
+             λ m e. z at.object (pointed_set scope t a at.object at.offset found.is k) m (operand_set scope t x k m e)) i)
+
+    act_holds : (b : Bool) (a : Action) (scope : Scope) (t : Temps) → IsTypedAction names scope a → IsClosedAction f a → Held scope t
+        → Preserves Inv (WayHolds names.objects f (behind scope a)) (act g b a t)
+    act_holds b (action.Compute n x) scope t h z k =
+        then_keep Inv (record { by = λ s i. stuck_holds (IsKnown names.objects (f.temp n) (computation_gives x)) (compute g.types s.store t x) (compute_known g.types same scope t s.store n x h z k) s i })
+        (λ v p. done_keep Inv (On (with_temp t n v)) (temp_holds scope t n (computation_gives x) v k p))
+    act_holds b (action.Read n ty a) scope t h z k =
+        then_keep Inv (stuck_keep (Found names.objects ty (operand_value t a)) (cell_of g.types.objects ty (operand_value t a)) (cell_found ty (operand_value t a)))
+        (λ at p. then_keep Inv (read_keep scope t n ty a z k at p) (λ v q. done_keep Inv (On (with_temp t n v)) (temp_holds scope t n (value_of ty) v k q)))
+    act_holds b (action.Write ty a x) scope t h z k =
+        then_keep Inv (stuck_keep (Found names.objects ty (operand_value t a)) (cell_of g.types.objects ty (operand_value t a)) (cell_found ty (operand_value t a)))
+        (λ at p. then_keep Inv (write_held scope t ty a x h.1 z k at p) (λ u q. done_keep Inv (On t) k))
+    act_holds b (action.Choice n ty) scope t h z k =
+        then_keep Inv (choose_keep Inv)
+        (λ w p. done_keep Inv (On (with_temp t n (Number (wrap ty w)))) (temp_holds scope t n (value_of (Integer ty)) _ k (number_known names.objects (f.temp n) ty (wrap ty w) (wrap_value ty w))))
+    act_holds b (action.Assume a) scope t h z k = either_keep Inv (is_true (operand_value t a)) (done_keep Inv (On t) k) (record { by = λ s i. i })
+    act_holds b (action.Check c a) scope t h z k = then_keep Inv (check_keep Inv b c (is_true (operand_value t a))) (λ u p. done_keep Inv (On t) k)
+    act_holds b (action.Unless a n) scope t h z k = either_keep Inv (is_true (operand_value t a)) (done_keep Inv (On t) k) (done_keep Inv (Out n) tt)
+    act_holds b (action.Goto n) scope t h z k = done_keep Inv (Out n) tt
+    act_holds b (action.Live o) scope t h z k = then_keep Inv (enliven_keep Inv o (λ st i. hold_live names.objects f st o true i)) (λ u p. done_keep Inv (On t) k)
+    act_holds b (action.Dead o) scope t h z k = then_keep Inv (bury_keep Inv o (λ st i. hold_live names.objects f st o false i)) (λ u p. done_keep Inv (On t) k)
+    act_holds b action.End scope t h z k = over_keep Inv (Over Ended)
+
+    -- ---- blocks and loops
+
+    leave_holds : (scope : Scope) (t : Temps) → Held scope t → (other : Scope) (w : Way) → WayHolds names.objects f other w → WayHolds names.objects f scope (leave t w)
+    leave_holds scope t k other (On u) p = k
+    leave_holds scope t k other (Out zero) p = k
+    leave_holds scope t k other (Out (suc n)) p = tt
+
+    follow_holds : (scope behind : Scope) (next : Temps → Run Way) → ((t : Temps) → Held scope t → Preserves Inv (WayHolds names.objects f behind) (next t))
+        → (w : Way) → WayHolds names.objects f scope w → Preserves Inv (WayHolds names.objects f behind) (follow next w)
+    follow_holds scope behind next h (On t) p = record { by = λ s i. (h t p).by s i }
+    follow_holds scope behind next h (Out n) p = done_keep Inv (Out n) tt
+
+    module _ (limits : LimitPreserves Inv g.limit) where
+      any_end : (o : Option ℕ) → Rattle.l2_code_laws.proofs.Preserving.Turned Inv Anything (λ (u : Unit {0}) (n : ℕ). Unit {0}) (tt, o)
+      any_end None = tt
+      any_end (Some n) = tt
+
+      mutual
+        node_holds : (b : Bool) (x : Node) (scope : Scope) (t : Temps) → IsTypedNode names scope x → IsClosedNode f x → Held scope t
+            → Preserves Inv (WayHolds names.objects f (behind_node scope x)) (node g b x t)
+        node_holds b (Do a) scope t h z k = act_holds b a scope t h z k
+        node_holds b (Block all) scope t h z k =
+            then_keep Inv (nodes_hold b all scope t h z k) (λ w p. done_keep Inv (leave t w) (leave_holds scope t k (behind_nodes scope all) w p))
+        node_holds b (Loop l all) scope t h z k =
+            then_keep Inv
+            (then_keep Inv
+                (loop_keep Inv Anything (λ (u : Unit {0}) (n : ℕ). Unit {0}) g.limit limits g.tests l _
+                    (λ c u p. then_keep Inv (then_keep Inv (nodes_hold c all scope t h.1 z k) (λ w q. done_keep Inv {P = Anything} (close w) tt)) (λ o q. done_keep Inv (tt, o) (any_end o)))
+                    b tt tt)
+                (λ r p. done_keep Inv {P = Anything} r.1 tt))
+            (λ n p. done_keep Inv (Out n) tt)
+
+        pub nodes_hold : (b : Bool) (xs : Nodes) (scope : Scope) (t : Temps) → AreTyped names scope xs → AreClosed f xs → Held scope t
+            → Preserves Inv (WayHolds names.objects f (behind_nodes scope xs)) (nodes g b xs t)
+        nodes_hold b none scope t h z k = done_keep Inv (On t) k
+        nodes_hold b (more x rest) scope t h z k =
+            then_keep Inv (node_holds b x scope t h.0 z.0 k)
+            (λ w p. follow_holds (behind_node scope x) (behind_nodes (behind_node scope x) rest) (nodes g b rest) (λ u q. nodes_hold b rest (behind_node scope x) u h.1 z.1 q) w p)
