@@ -1,5 +1,5 @@
 -- Code keeps what cells and temporaries hold.
-use Rattle.std.proofs.Common.{arith, ◌≡◌, refl, ap, sym, subst, ◌∙◌, ◌<◌, ◌≤◌, ℕ, zero, suc, ℤ, Bool, true, false, List, [], ◌∷◌, length, Option, Some, None, IfSome, cond}
+use Rattle.std.proofs.Common.{arith, ◌≡◌, refl, sym, subst, ◌≤◌, ℕ, zero, suc, Bool, true, false, length, Option, Some, None, IfSome, cond}
 use Rattle.std.specs.Prelude.{◌==◌, slice_get}
 use Rattle.std.proofs.lemmas.Bool.{eqb-true}
 use Rattle.l2_bits.proofs.Wraps.{wrap_value}
@@ -8,13 +8,12 @@ use Rattle.l2_runs.specs.declared.cells.CellType.{CellType}
 use Rattle.l2_runs.specs.declared.cells.CellType.TheVariants.{Integer, Pointer}
 use Rattle.l2_runs.specs.declared.cells.CellValue.{CellValue}
 use Rattle.l2_runs.specs.declared.cells.CellValue.TheVariants.{Number, Null, Invalid, At}
-use Rattle.l2_runs.specs.declared.member.Member.{Member}
 use Rattle.l2_runs.specs.declared.member.Member.TheVariants.{Object}
 use Rattle.l2_runs.specs.declared.outcome.Outcome.TheVariants.{Ended}
 use Rattle.l2_runs.specs.Fits.{Layout}
 use Rattle.l2_runs.specs.Members.{targets, Within}
 use Rattle.l2_runs.specs.Store.{Store, Address}
-use Rattle.l2_runs.specs.Runs.{State, Run, Over, done, stop, choose, read, write, enliven, bury, check}
+use Rattle.l2_runs.specs.Runs.{State, Run, Over, read, write}
 use Rattle.l2_runs.specs.Keeps.{Anything}
 use Rattle.l2_code.specs.declared.action.Operand.{Operand}
 use Rattle.l2_code.specs.declared.action.Operand.TheVariants.{Constant, Temp}
@@ -24,11 +23,11 @@ use Rattle.l2_code.specs.declared.action.Action.{Action}
 use Rattle.l2_code.specs.declared.action.Action.TheVariants as action
 use Rattle.l2_code.specs.Trees.{Node, Do, Block, Loop, Nodes, none, more}
 use Rattle.l2_code.specs.Values.{Types, Temps, with_temp, operand_value, same_type, is_type, cell_of, is_true, passes, compute}
-use Rattle.l2_code.specs.Machine.{Setting, Way, On, Out, or_stuck, computed, act, follow, leave, close, code_loop, node, nodes}
+use Rattle.l2_code.specs.Machine.{Setting, Way, On, Out, or_stuck, act, follow, leave, close, node, nodes}
 use Rattle.l2_code.specs.Sets.{Family, may_be, IsClosedResult, IsClosedAction, IsClosedNode, AreClosed}
 use Rattle.l2_code.specs.WellFormed.{Known, Scope, with_known, Names, IsConstant, IsOfType, IsOperand, value_of, computation_gives, IsTypedComputation, IsTypedAction, behind, behind_node, IsTypedNode, AreTyped}
 use Rattle.l2_code_laws.specs.Preserved.{ResultHolds, Preserves, LimitPreserves}
-use Rattle.l2_code_laws.specs.Holding.{CellHolds, StoreHolds, KnownHolds, TempsHold, behind_nodes, WayHolds}
+use Rattle.l2_code_laws.specs.Holding.{StoreHolds, KnownHolds, TempsHold, behind_nodes, WayHolds}
 use Rattle.l2_code_laws.proofs.Preserving.{then_keep, done_keep, over_keep, either_keep, choose_keep, write_keep, enliven_keep, bury_keep, check_keep, loop_keep}
 use Rattle.l2_code_laws.proofs.Values.{IsKnown, truth_known, numbers_known, converted_known, moved_known, pointers_known, number_known}
 use Rattle.l2_code_laws.proofs.Stores.{same_constants, constants_back, hold_live, hold_write, hold_read}
@@ -46,6 +45,7 @@ found cells ty (At o f) = go (slice_get (cells o) f) refl
     pick : (u : CellType) → slice_get (cells o) f ≡ Some u → (t : Bool) → same_type ty u ≡ t → IfSome (cond t (Some (record { object = o; offset = f })) None) (Found cells ty (At o f))
     pick u e true s = record { type = u; there = e; same = s; is = refl }
     pick u e false s = tt
+
     go : (x : Option CellType) → slice_get (cells o) f ≡ x → IfSome (cond (is_type ty x) (Some (record { object = o; offset = f })) None) (Found cells ty (At o f))
     go None e = tt
     go (Some u) e = pick u e (same_type ty u) refl
@@ -80,6 +80,7 @@ module _ (names : Names) (f : Family) (small : (n : ℕ) → length (names.objec
       set : (i : ℕ) (x : Bool) → (i == n) ≡ x → Within (targets (cond x v (t i))) (f.temp i)
       set i true e = subst (λ j. Within (targets v) (f.temp j)) (sym (eqb-true i n e)) r
       set i false e = k.sets i
+
       type : (i : ℕ) (x : Bool) → (i == n) ≡ x → KnownHolds names.objects (cond x (Some kn) (scope i)) (cond x v (t i))
       type i true e = (p, q)
       type i false e = k.types i
@@ -132,9 +133,10 @@ module _ (names : Names) (f : Family) (small : (n : ℕ) → length (names.objec
     write_held : (scope : Scope) (t : Temps) (ty : CellType) (a x : Operand) → IsOperand names.objects scope ty x → IsClosedAction f (action.Write ty a x) → Held scope t
         → (at : Address) → Found names.objects ty (operand_value t a) at → Preserves Inv Anything (write at (operand_value t x))
     write_held scope t ty a x h z k at found =
-        write_keep Inv at (operand_value t x) (λ st i. hold_write names.objects f st at found.type (operand_value t x) found.there
-            (same_constants names.objects ty found.type (operand_value t x) found.same (operand_type scope t ty x h k),
-             λ m e. z at.object (pointed_set scope t a at.object at.offset found.is k) m (operand_set scope t x k m e)) i)
+        write_keep Inv at (operand_value t x) (λ st i. hold_write names.objects f st at found.type (operand_value t x) found.there (
+          same_constants names.objects ty found.type (operand_value t x) found.same (operand_type scope t ty x h k),
+          λ m e. z at.object (pointed_set scope t a at.object at.offset found.is k) m (operand_set scope t x k m e),
+        ) i)
 
     act_holds : (b : Bool) (a : Action) (scope : Scope) (t : Temps) → IsTypedAction names scope a → IsClosedAction f a → Held scope t
         → Preserves Inv (WayHolds names.objects f (behind scope a)) (act g b a t)
@@ -184,10 +186,10 @@ module _ (names : Names) (f : Family) (small : (n : ℕ) → length (names.objec
         node_holds b (Loop l all) scope t h z k =
             then_keep Inv
             (then_keep Inv
-                (loop_keep Inv Anything (λ (u : Unit {0}) (n : ℕ). Unit {0}) g.limit limits g.tests l _
-                    (λ c u p. then_keep Inv (then_keep Inv (nodes_hold c all scope t h.1 z k) (λ w q. done_keep Inv {P = Anything} (close w) tt)) (λ o q. done_keep Inv (tt, o) (any_end o)))
-                    b tt tt)
-                (λ r p. done_keep Inv {P = Anything} r.1 tt))
+            (loop_keep Inv Anything (λ (u : Unit {0}) (n : ℕ). Unit {0}) g.limit limits g.tests l _
+            (λ c u p. then_keep Inv (then_keep Inv (nodes_hold c all scope t h.1 z k) (λ w q. done_keep Inv {P = Anything} (close w) tt)) (λ o q. done_keep Inv (tt, o) (any_end o)))
+            b tt tt)
+            (λ r p. done_keep Inv {P = Anything} r.1 tt))
             (λ n p. done_keep Inv (Out n) tt)
 
         pub nodes_hold : (b : Bool) (xs : Nodes) (scope : Scope) (t : Temps) → AreTyped names scope xs → AreClosed f xs → Held scope t

@@ -1,6 +1,6 @@
 -- Stores keep what their cells hold where such values are written.
-use Rattle.std.proofs.Common.{arith, ◌≡◌, refl, ap, sym, subst, ◌∙◌, ◌<◌, ◌≤◌, ℕ, zero, suc, ℤ, Bool, true, false, List, [], ◌∷◌, length, Option, Some, None, map}
-use Rattle.std.specs.Prelude.{slice_index_or, slice_set, slice_get, ◌==◌, ◌&&◌, if◌then◌else◌, pos, neg_ℤ, ◌^◌, ◌-◌, ◌≤ℤ◌}
+use Rattle.std.proofs.Common.{◌≡◌, refl, sym, subst, ℕ, zero, suc, ℤ, Bool, true, false, List, [], ◌∷◌, Some}
+use Rattle.std.specs.Prelude.{slice_index_or, slice_set, slice_get, ◌==◌, if◌then◌else◌, pos, neg_ℤ, ◌^◌, ◌-◌, ◌≤ℤ◌}
 use Rattle.std.proofs.lemmas.Bool.{eqb-true}
 use Rattle.l2_bits.specs.declared.types.Ty.{Ty}
 use Rattle.l2_bits.specs.Values.{IsValue, least, greatest}
@@ -12,9 +12,8 @@ use Rattle.l2_runs.specs.declared.member.Member.{Member}
 use Rattle.l2_runs.specs.Numbers.{set_number}
 use Rattle.l2_runs.specs.Store.{Object, Store, Address, or_nothing, object_at, cell_at, with_cell, with_live}
 use Rattle.l2_runs.specs.Fits.{Layout}
-use Rattle.l2_runs.proofs.Stores.{from, from_next}
 use Rattle.std.proofs.lemmas.Bool.{and_parts}
-use Rattle.l2_code.specs.Values.{same_sign, same_type, is_type}
+use Rattle.l2_code.specs.Values.{same_sign, same_type}
 use Rattle.l2_code.specs.Sets.{Family}
 use Rattle.l2_code.specs.WellFormed.{IsConstant}
 use Rattle.l2_code_laws.specs.Holding.{CellHolds, CellsHold, StoreHolds}
@@ -34,6 +33,7 @@ same_values t u z w g h = record {
   where
     low : least t ≡ least u
     low = λ i. if g i then neg_ℤ (pos (2 ^ (w i - 1))) else pos 0
+
     high : greatest t ≡ greatest u
     high = λ i. if g i then pos (2 ^ (w i - 1) - 1) else pos (2 ^ (w i) - 1)
 

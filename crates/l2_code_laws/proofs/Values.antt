@@ -1,17 +1,16 @@
 -- What operators, moves and tests give is of its type.
-use Rattle.std.proofs.Common.{arith, ◌≡◌, refl, ap, sym, subst, ◌∙◌, ◌<◌, ◌≤◌, ℕ, zero, suc, ℤ, pos, negsuc, Bool, true, false, List, [], ◌∷◌, length, Option, Some, None, IfSome, cond, inl, inr}
-use Rattle.std.specs.Prelude.{◌==◌, ◌&&◌, nat_le, nat_lt, not, ◌⊎◌, ◌≤ℤ◌, ◌-ℤ◌, int_le, int_lt}
+use Rattle.std.proofs.Common.{arith, ◌≡◌, refl, ◌<◌, ◌≤◌, ℕ, ℤ, pos, negsuc, Bool, true, false, length, Option, Some, None, IfSome, cond, inl, inr}
+use Rattle.std.specs.Prelude.{◌==◌, nat_le, nat_lt, not, ◌-ℤ◌, int_le, int_lt}
 use Rattle.std.specs.Ordering.{int_eq}
 use Rattle.std.proofs.lemmas.Int.{ints}
 use Rattle.std.proofs.lemmas.Bool.{leb-true}
 use Rattle.l2_bits.specs.declared.types.Ty.{Ty}
-use Rattle.l2_bits.specs.Types.{int_type, long_type}
-use Rattle.l2_bits.specs.Values.{IsValue, wrap}
+use Rattle.l2_bits.specs.Types.{long_type}
+use Rattle.l2_bits.specs.Values.{IsValue}
 use Rattle.l2_bits.specs.Bits.{and, or, xor}
 use Rattle.l2_bits.proofs.Wraps.{wrap_value}
 use Rattle.l2_bits.proofs.OperatorValues.{div_value, rem_value, shl_value, shr_value, convert_value}
 use Rattle.l2_bits.specs.Operators.{div, rem, shl, shr}
-use Rattle.l2_runs.specs.declared.cells.CellType.{CellType}
 use Rattle.l2_runs.specs.declared.cells.CellType.TheVariants.{Integer, Pointer}
 use Rattle.l2_runs.specs.declared.cells.CellValue.{CellValue}
 use Rattle.l2_runs.specs.declared.cells.CellValue.TheVariants.{Number, Null, Invalid, At}
@@ -23,7 +22,7 @@ use Rattle.l2_code.specs.declared.action.Operator.{Operator}
 use Rattle.l2_code.specs.declared.action.Operator.TheVariants.{Add, Sub, Mul, Div, Rem, Shl, Shr, And, Or, Xor, Eq, Ne, Lt, Le}
 use Rattle.l2_code.specs.declared.action.PointerOperator.{PointerOperator}
 use Rattle.l2_code.specs.declared.action.PointerOperator.TheVariants as pointers
-use Rattle.l2_code.specs.Values.{operate, as_number, on_numbers, converted, place_in, moved, distance, in_order, same_place, on_equal, on_pointers}
+use Rattle.l2_code.specs.Values.{operate, as_number, on_numbers, converted, place_in, moved, distance, in_order, on_equal, on_pointers}
 use Rattle.l2_code.specs.WellFormed.{Known, IsConstant, IsBit, is_comparison, truth_value, value_of, pointers_give}
 
 -- what is known of a value is so, and it is in the set

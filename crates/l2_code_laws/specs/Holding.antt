@@ -1,5 +1,5 @@
 -- Cells and temporaries hold values of their types, in their sets.
-use Rattle.std.specs.Prelude.{◌≡◌, ℕ, ◌≤◌, ℤ, Bool, true, List, [], ◌∷◌, length, Option, Some, None}
+use Rattle.std.specs.Prelude.{◌≡◌, ℕ, ℤ, Bool, true, List, [], ◌∷◌, Option, Some, None}
 use Rattle.l2_runs.specs.declared.cells.CellType.{CellType}
 use Rattle.l2_runs.specs.declared.cells.CellValue.{CellValue}
 use Rattle.l2_runs.specs.declared.member.Member.{Member}
