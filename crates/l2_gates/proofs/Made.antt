@@ -1,8 +1,8 @@
 -- The clauses of gates have a model for all values of the variables before them.
-use Rattle.std.proofs.Common.{◌≡◌, ℕ, zero, suc, ◌≤◌, ◌<◌, Bool, true, false, not, refl, sym, ap, ◌∙◌, subst, List, [], ◌∷◌, ◌++◌, arith}
+use Rattle.std.proofs.Common.{◌≡◌, ℕ, suc, ◌≤◌, ◌<◌, Bool, true, false, not, refl, ap, ◌∙◌, List, [], ◌∷◌, ◌++◌, arith}
 use Rattle.std.specs.Prelude.{nat_eq, if◌then◌else◌}
 use Rattle.l2_gates.specs.Gates.{Lit, Pos, Neg, negated, T, F, same, Made, Bit, with_clauses, fresh, known, new_and, new_xor, new_mux, and, or, xor, mux}
-use Rattle.l2_gates.specs.Models.{both, differ, chosen, some_of, value, some_true, all_true, Ok, var, Below, AllBelow, ClausesBelow, Sound, Agree, Model, Extends, Makes}
+use Rattle.l2_gates.specs.Models.{both, differ, chosen, some_of, value, some_true, all_true, Ok, Below, AllBelow, ClausesBelow, Sound, Agree, Model, Extends, Makes}
 use Rattle.l2_gates.specs.Law.{GatesAreMade}
 use Rattle.l2_gates.proofs.Bools.{by_test}
 use Rattle.l2_gates.proofs.Values.{negated_value, all_first}
@@ -153,7 +153,7 @@ module _ (m : Made) (h : Sound m) where
     extends = ext_defined m _ (λ v. both (value v a) (value v b)) h
         ((here, (lift a p, tt)), ((here, (lift b q, tt)), ((here, (lift_not a p, (lift_not b q, tt))), tt)))
         (λ v. let f = both (value v a) (value v b) in let n = set_var_same v m.next f in let x = old v f a p in let y = old v f b q in let x' = old_not v f a p in let y' = old_not v f b q in
-          (λ i. both (some_of (not (n i)) (some_of (x i) false)) (both (some_of (not (n i)) (some_of (y i) false)) (both (some_of (n i) (some_of (x' i) (some_of (y' i) false))) true))) ∙ and_ok (value v a) (value v b));
+        (λ i. both (some_of (not (n i)) (some_of (x i) false)) (both (some_of (not (n i)) (some_of (y i) false)) (both (some_of (n i) (some_of (x' i) (some_of (y' i) false))) true))) ∙ and_ok (value v a) (value v b));
   }
 
   makes_new_xor : (a b : Lit) → Below m.next a → Below m.next b → Makes m (new_xor a b m)
@@ -162,7 +162,7 @@ module _ (m : Made) (h : Sound m) where
     extends = ext_defined m _ (λ v. differ (value v a) (value v b)) h
         ((here, (lift a p, (lift b q, tt))), ((here, (lift_not a p, (lift_not b q, tt))), ((here, (lift_not a p, (lift b q, tt))), ((here, (lift a p, (lift_not b q, tt))), tt))))
         (λ v. let f = differ (value v a) (value v b) in let n = set_var_same v m.next f in let x = old v f a p in let y = old v f b q in let x' = old_not v f a p in let y' = old_not v f b q in
-          (λ i. both (some_of (not (n i)) (some_of (x i) (some_of (y i) false))) (both (some_of (not (n i)) (some_of (x' i) (some_of (y' i) false))) (both (some_of (n i) (some_of (x' i) (some_of (y i) false))) (both (some_of (n i) (some_of (x i) (some_of (y' i) false))) true)))) ∙ xor_ok (value v a) (value v b));
+        (λ i. both (some_of (not (n i)) (some_of (x i) (some_of (y i) false))) (both (some_of (not (n i)) (some_of (x' i) (some_of (y' i) false))) (both (some_of (n i) (some_of (x' i) (some_of (y i) false))) (both (some_of (n i) (some_of (x i) (some_of (y' i) false))) true)))) ∙ xor_ok (value v a) (value v b));
   }
 
   makes_new_mux : (c a b : Lit) → Below m.next c → Below m.next a → Below m.next b → Makes m (new_mux c a b m)
@@ -171,7 +171,7 @@ module _ (m : Made) (h : Sound m) where
     extends = ext_defined m _ (λ v. chosen (value v c) (value v a) (value v b)) h
         ((lift_not c r, (lift_not a p, (here, tt))), ((lift_not c r, (lift a p, (here, tt))), ((lift c r, (lift_not b q, (here, tt))), ((lift c r, (lift b q, (here, tt))), tt))))
         (λ v. let f = chosen (value v c) (value v a) (value v b) in let n = set_var_same v m.next f in let z = old v f c r in let x = old v f a p in let y = old v f b q in let z' = old_not v f c r in let x' = old_not v f a p in let y' = old_not v f b q in
-          (λ i. both (some_of (z' i) (some_of (x' i) (some_of (n i) false))) (both (some_of (z' i) (some_of (x i) (some_of (not (n i)) false))) (both (some_of (z i) (some_of (y' i) (some_of (n i) false))) (both (some_of (z i) (some_of (y i) (some_of (not (n i)) false))) true)))) ∙ mux_ok (value v c) (value v a) (value v b));
+        (λ i. both (some_of (z' i) (some_of (x' i) (some_of (n i) false))) (both (some_of (z' i) (some_of (x i) (some_of (not (n i)) false))) (both (some_of (z i) (some_of (y' i) (some_of (n i) false))) (both (some_of (z i) (some_of (y i) (some_of (not (n i)) false))) true)))) ∙ mux_ok (value v c) (value v a) (value v b));
   }
 
   below_F : Below m.next F

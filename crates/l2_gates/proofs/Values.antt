@@ -1,8 +1,8 @@
 -- What gates give where their clauses are true.
-use Rattle.std.proofs.Common.{◌≡◌, ℕ, zero, suc, Bool, true, false, not, refl, sym, ap, ◌∙◌, subst, List, [], ◌∷◌, ◌++◌, arith}
-use Rattle.std.specs.Prelude.{nat_eq, if◌then◌else◌}
-use Rattle.l2_gates.specs.Gates.{Lit, Pos, Neg, negated, T, F, same, Made, Bit, with_clauses, fresh, known, new_and, new_xor, new_mux, and, or, xor, mux}
-use Rattle.l2_gates.specs.Models.{both, some_of, differ, chosen, value, some_true, all_true, Ok, Right, Gives}
+use Rattle.std.proofs.Common.{◌≡◌, ℕ, Bool, true, false, not, refl, sym, ap, ◌∙◌, List, [], ◌∷◌, ◌++◌, arith}
+use Rattle.std.specs.Prelude.{nat_eq}
+use Rattle.l2_gates.specs.Gates.{Lit, Pos, Neg, negated, T, F, same, Made, Bit, known, new_and, new_xor, new_mux, and, or, xor, mux}
+use Rattle.l2_gates.specs.Models.{both, differ, chosen, value, some_true, all_true, Gives}
 use Rattle.l2_gates.specs.Law.{GatesGive}
 use Rattle.l2_gates.proofs.Bools.{both_false, both_true, both_self, both_not, both_first, both_second, not_not, differ_false, differ_true, differ_self, differ_not, chosen_same, chosen_or, chosen_or_self, chosen_and, chosen_and_not, chosen_implies, chosen_implies_not, chosen_both, chosen_both_self, and_bits, xor_bits, mux_bits, by_test}
 

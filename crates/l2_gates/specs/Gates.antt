@@ -1,5 +1,5 @@
 -- Gates: each answers with a literal that it has, or defines a new variable by clauses.
-use Rattle.std.specs.Prelude.{ℕ, zero, suc, nat_eq, Bool, true, false, if◌then◌else◌, ℤ, pos, negsuc, List, [], ◌∷◌, ◌++◌, map}
+use Rattle.std.specs.Prelude.{ℕ, zero, suc, nat_eq, Bool, false, if◌then◌else◌, ℤ, pos, negsuc, List, [], ◌∷◌, ◌++◌, map}
 
 -- a variable or its negation, by the variable's index: variable 1 has the index 0
 pub data Lit : Type 0 where
@@ -80,20 +80,28 @@ xor a b m =
     (if same a b then known F m else
     (if same a (negated b) then known T m else new_xor a b m)))))
 
+-- the cases by the second literal
+abbrev pub mux_second : Lit → Lit → Lit → Made → Bit
+mux_second c a b m =
+    if same b T then or (negated c) a m else
+    (if same b (negated c) then or (negated c) a m else
+    (if same b F then and c a m else
+    (if same b c then and c a m else new_mux c a b m)))
+
+-- the cases by the first one, and then by the second
+abbrev pub mux_first : Lit → Lit → Lit → Made → Bit
+mux_first c a b m =
+    if same a T then or c b m else
+    (if same a c then or c b m else
+    (if same a F then and (negated c) b m else
+    (if same a (negated c) then and (negated c) b m else mux_second c a b m)))
+
 -- a where c is true, else b
 abbrev pub mux : Lit → Lit → Lit → Made → Bit
 mux c a b m =
     if same c T then known a m else
     (if same c F then known b m else
-    (if same a b then known a m else
-    (if same a T then or c b m else
-    (if same a c then or c b m else
-    (if same a F then and (negated c) b m else
-    (if same a (negated c) then and (negated c) b m else
-    (if same b T then or (negated c) a m else
-    (if same b (negated c) then or (negated c) a m else
-    (if same b F then and c a m else
-    (if same b c then and c a m else new_mux c a b m))))))))))
+    (if same a b then known a m else mux_first c a b m))
 
 -- ---- literals as whole numbers
 

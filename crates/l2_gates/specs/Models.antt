@@ -1,6 +1,6 @@
 -- What an assignment of the variables makes true, and what gates are in a model of their clauses.
 use Rattle.std.specs.Prelude.{◌≡◌, ℕ, ◌≤◌, ◌<◌, Bool, true, false, not, List, [], ◌∷◌}
-use Rattle.l2_gates.specs.Gates.{Lit, Pos, Neg, Made, Bit, fresh, and, or, xor, mux}
+use Rattle.l2_gates.specs.Gates.{Lit, Pos, Neg, Made, Bit}
 
 abbrev pub both : Bool → Bool → Bool
 both true b = b
