@@ -4,7 +4,7 @@ use Rattle.std.specs.Prelude.{ℕ, suc, ◌+◌, List, [], ◌∷◌, ◌++◌, 
 use Rattle.l2_code.specs.declared.action.Action.{Action}
 use Rattle.l2_code.specs.declared.action.Action.TheVariants as action
 use Rattle.l2_code.specs.Trees.{Node, Do, Block, Loop, Nodes, none, more}
-use Rattle.l2_listing.specs.Counts.{count_of, count}
+use Rattle.l2_code.specs.Sizes.{node_count, instructions}
 
 pub data Instruction : Type 0 where
   -- an instruction, and the number of the one to which it jumps, 0 where it is no jump
@@ -30,9 +30,9 @@ target ends action.End = 0
 abbrev mutual
   pub flat_of : ℕ → List ℕ → Node → List Instruction
   flat_of at ends (Do a) = Step a (target ends a) ∷ []
-  flat_of at ends (Block xs) = flat at ((at + count xs) ∷ ends) xs
+  flat_of at ends (Block xs) = flat at ((at + instructions xs) ∷ ends) xs
   flat_of at ends (Loop l xs) = Head l ∷ (flat (at + 1) ends xs ++ Close l ∷ [])
 
   pub flat : ℕ → List ℕ → Nodes → List Instruction
   flat at ends none = []
-  flat at ends (more x rest) = flat_of at ends x ++ flat (at + count_of x) ends rest
+  flat at ends (more x rest) = flat_of at ends x ++ flat (at + node_count x) ends rest

@@ -1,4 +1,3 @@
 pub mod Backwards
-pub mod Counts
 pub mod Flat
 pub mod Texts

@@ -1,13 +1,14 @@
 // How many instructions code has.
 ghost use Rattle.std.specs.Prelude.{◌≡◌, min};
 ghost use Rattle.l2_code.specs.Trees.{tree_of, items_of};
-ghost use Rattle.l2_listing.specs.Counts.{count_of, count};
+ghost use Rattle.l2_code.specs.Sizes.{node_count, instructions};
 
 use l2_code::Item;
 
 #[cycle(counts)]
+#[tactic(auto, using(crate::proofs::Items::items))]
 fn count_of(item: &Item) -> usize
-    ensures { result ≡ min (count_of (tree_of item.now)) usize.MAX }
+    ensures { result ≡ min (node_count (tree_of item.now)) usize.MAX }
 {
     match item {
         Item::Do(_) => 1,
@@ -18,8 +19,9 @@ fn count_of(item: &Item) -> usize
 
 /// How many instructions these items have, or the greatest number where they have more.
 #[cycle(counts)]
+#[tactic(auto, using(crate::proofs::Items::items))]
 pub fn count(items: &[Item]) -> usize
-    ensures { result ≡ min (count (items_of items.now)) usize.MAX }
+    ensures { result ≡ min (instructions (items_of items.now)) usize.MAX }
 {
     let mut total: usize = 0;
     for item in items {

@@ -2,7 +2,7 @@
 // jumps to it.
 ghost use Rattle.std.specs.Prelude.{◌≡◌, ◌+◌, ◌-◌, ◌<◌, ◌≤◌, ◌∷◌, ◌++◌, [], map, drop, slice_index, OnOk, IfOk};
 ghost use Rattle.l2_code.specs.Trees.{tree_of, items_of};
-ghost use Rattle.l2_listing.specs.Counts.{count_of, count};
+ghost use Rattle.l2_code.specs.Sizes.{node_count, instructions};
 ghost use Rattle.l2_listing.specs.Flat.{Step, target, flat_of, flat};
 ghost use Rattle.l2_listing.specs.Backwards.{instruction_of};
 
@@ -54,7 +54,7 @@ impl<'a> Flattening<'a> {
     /// Puts an instruction before the others.
     fn put(&mut self, instruction: Instruction<'a>) -> Result<(), AllocError>
         requires { 0 < self.old.at }
-        ensures { OnOk result (self.new ≡ record { at = self.old.at - 1; ends = self.old.ends; later = instruction_of instruction ∷ self.old.later }) }
+        ensures { OnOk result (self.new ≡ record { at = self.old.at - 1; ends = self.old.ends; later = instruction_of instruction.entry ∷ self.old.later }) }
     {
         self.later.push(instruction)?;
         self.at -= 1;
@@ -118,7 +118,7 @@ impl<'a> Flattening<'a> {
 
     /// The whole list, from the first instruction on.
     fn into_list(self) -> Vec<Instruction<'a>>
-        ensures { map instruction_of result.items ≡ self.later }
+        ensures { map instruction_of result.items ≡ self.entry.later }
     {
         let Flattening { later, .. } = self;
         let mut list = later;
@@ -129,9 +129,10 @@ impl<'a> Flattening<'a> {
 
 /// Puts an item's instructions before the others.
 #[cycle(flattening)]
+#[tactic(auto, using(crate::proofs::Items::items))]
 fn flatten_item<'a>(f: &mut Flattening<'a>, item: &'a Item) -> Result<(), AllocError>
-    requires { count_of (tree_of item.now) ≤ f.old.at }
-    ensures at { OnOk result (f.new.at + count_of (tree_of item.now) ≡ f.old.at) }
+    requires { node_count (tree_of item.now) ≤ f.old.at }
+    ensures at { OnOk result (f.new.at + node_count (tree_of item.now) ≡ f.old.at) }
     ensures ends { OnOk result (f.new.ends ≡ f.old.ends) }
     ensures later { OnOk result (f.new.later ≡ flat_of f.new.at f.old.ends (tree_of item.now) ++ f.old.later) }
 {
@@ -153,9 +154,10 @@ fn flatten_item<'a>(f: &mut Flattening<'a>, item: &'a Item) -> Result<(), AllocE
 
 /// Puts the instructions of items before the others.
 #[cycle(flattening)]
+#[tactic(auto, using(crate::proofs::Items::items))]
 fn flatten<'a>(f: &mut Flattening<'a>, items: &'a [Item]) -> Result<(), AllocError>
-    requires { count (items_of items.now) ≤ f.old.at }
-    ensures at { OnOk result (f.new.at + count (items_of items.now) ≡ f.old.at) }
+    requires { instructions (items_of items.now) ≤ f.old.at }
+    ensures at { OnOk result (f.new.at + instructions (items_of items.now) ≡ f.old.at) }
     ensures ends { OnOk result (f.new.ends ≡ f.old.ends) }
     ensures later { OnOk result (f.new.later ≡ flat f.new.at f.old.ends (items_of items.now) ++ f.old.later) }
 {
