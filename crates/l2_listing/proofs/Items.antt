@@ -1,25 +1,10 @@
--- Rows of items, as the lists that code goes over; and how large they are.
-use Rattle.std.proofs.Common.{◌≡◌, refl, ap, sym, ◌∙◌, ℕ, zero, suc, ◌+◌, ◌<◌, ◌≤◌, List, [], ◌∷◌, length, get_or, drop, arith}
+-- How large items are, and what stands behind one of them.
+use Rattle.std.proofs.Common.{◌≡◌, refl, ap, sym, ◌∙◌, ℕ, zero, suc, ◌+◌, ◌<◌, ◌≤◌, List, [], ◌∷◌, length, get_or, drop, arith, subst}
 use Rattle.std.proofs.lemmas.List.{drop_more}
-use Rattle.std.specs.declared.vec.Vec.{Vec}
-use Rattle.std.specs.declared.alloc.Global.{Global}
-use Rattle.l2_code.specs.declared.code.Item as item
-use Rattle.l2_code.specs.declared.code.Item.{Item, Row_of-Item, end_of-Item, more_of-Item, items-the_row-Item, items_hidden-the_row-Item-0}
-use Rattle.l2_code.specs.declared.code.Item.TheBlock.{hidden-the_row-Item-0}
-use Rattle.l2_code.specs.Trees.{Node, Do, Block, Loop, Nodes, none, more, tree_of, row_nodes, items_of}
-
-row_is : {m : _} (r : Row_of-Item m) → row_nodes r ≡ items_of (items-the_row-Item m r)
-row_is end_of-Item = refl
-row_is (more_of-Item x rest) = ap (λ all. more (tree_of x) all) (row_is rest)
-
-items_row : (all : Vec Item Global) → row_nodes (hidden-the_row-Item-0 all) ≡ items_of all.items
-items_row all = row_is (hidden-the_row-Item-0 all) ∙ ap items_of (items_hidden-the_row-Item-0 all)
-
-pub tree_of-Block : (all : Vec Item Global) → tree_of (item.Block all) ≡ Block (items_of all.items)
-tree_of-Block all = ap Block (items_row all)
-
-pub tree_of-Loop : (l : ℕ) (all : Vec Item Global) → tree_of (item.Loop l all) ≡ Loop l (items_of all.items)
-tree_of-Loop l all = ap (Loop l) (items_row all)
+use Rattle.l2_code.specs.declared.code.Item.{Item}
+use Rattle.l2_code.specs.Trees.{Node, Do, Block, Loop, Nodes, none, more, tree_of, items_of}
+use Rattle.l2_code.specs.Sizes.{node_count, instructions}
+use Rattle.l2_code.proofs.Items.{tree_of-Block, tree_of-Loop}
 
 -- an item and those behind it
 pub items_from : (all : List Item) (i : ℕ) (x : Item) → i < length all → x ≡ get_or all i x → items_of (drop i all) ≡ more (tree_of x) (items_of (drop (i + 1) all))
@@ -40,5 +25,14 @@ pub weight_at : (all : List Item) (i : ℕ) (x : Item) → i < length all → x 
 weight_at [] i x h e = omega arith
 weight_at (first ∷ rest) zero x h e = let w = ap (λ y. weight (tree_of y)) e in omega arith
 weight_at (first ∷ rest) (suc i) x h e = let w = weight_at rest i x (omega arith) e in omega arith
+
+-- an item's instructions and those behind it
+counts_from : (all : List Item) (i : ℕ) (x : Item) → i < length all → x ≡ get_or all i x → node_count (tree_of x) + instructions (items_of (drop (suc i) all)) ≤ instructions (items_of all)
+counts_from [] i x h e = absurd (omega arith)
+counts_from (first ∷ rest) zero x h e = let w = ap (λ y. node_count (tree_of y)) e in omega arith
+counts_from (first ∷ rest) (suc i) x h e = let w = counts_from rest i x (omega arith) e in omega arith
+
+pub counts_behind : (all : List Item) (n i : ℕ) (x : Item) → n ≡ suc i → i < length all → x ≡ get_or all i x → node_count (tree_of x) + instructions (items_of (drop n all)) ≤ instructions (items_of all)
+counts_behind all n i x q h e = subst (λ m. node_count (tree_of x) + instructions (items_of (drop m all)) ≤ instructions (items_of all)) (sym q) (counts_from all i x h e)
 
 pub ruleset items = (tree_of-Block, tree_of-Loop)

@@ -54,7 +54,9 @@ impl<'a> Flattening<'a> {
     /// Puts an instruction before the others.
     fn put(&mut self, instruction: Instruction<'a>) -> Result<(), AllocError>
         requires { 0 < self.old.at }
-        ensures { OnOk result (self.new ≡ record { at = self.old.at - 1; ends = self.old.ends; later = instruction_of instruction.entry ∷ self.old.later }) }
+        ensures at { OnOk result (self.new.at + 1 ≡ self.old.at) }
+        ensures ends { OnOk result (self.new.ends ≡ self.old.ends) }
+        ensures later { OnOk result (self.new.later ≡ instruction_of instruction.entry ∷ self.old.later) }
     {
         self.later.push(instruction)?;
         self.at -= 1;
@@ -110,7 +112,9 @@ impl<'a> Flattening<'a> {
     /// Puts an instruction of the code before the others.
     fn step(&mut self, action: &'a Action) -> Result<(), AllocError>
         requires { 0 < self.old.at }
-        ensures { OnOk result (self.new ≡ record { at = self.old.at - 1; ends = self.old.ends; later = Step action.now (target self.old.ends action.now) ∷ self.old.later }) }
+        ensures at { OnOk result (self.new.at + 1 ≡ self.old.at) }
+        ensures ends { OnOk result (self.new.ends ≡ self.old.ends) }
+        ensures later { OnOk result (self.new.later ≡ Step action.now (target self.old.ends action.now) ∷ self.old.later) }
     {
         let to = self.target(action);
         self.put(Instruction::Step(action, to))
@@ -147,7 +151,8 @@ fn flatten_item<'a>(f: &mut Flattening<'a>, item: &'a Item) -> Result<(), AllocE
         Item::Loop(l, items) => {
             f.put(Instruction::Close(*l))?;
             flatten(f, items)?;
-            f.put(Instruction::Head(*l))
+            f.put(Instruction::Head(*l))?;
+            Ok(())
         }
     }
 }
