@@ -1,5 +1,5 @@
 -- How large items are, and what stands behind one of them.
-use Rattle.std.proofs.Common.{◌≡◌, refl, ap, sym, ◌∙◌, ℕ, zero, suc, ◌+◌, ◌<◌, ◌≤◌, List, [], ◌∷◌, length, get_or, drop, arith, subst}
+use Rattle.std.proofs.Common.{◌≡◌, ap, sym, ◌∙◌, ℕ, zero, suc, ◌+◌, ◌<◌, ◌≤◌, List, [], ◌∷◌, length, get_or, drop, arith, subst}
 use Rattle.std.proofs.lemmas.List.{drop_more}
 use Rattle.l2_code.specs.declared.code.Item.{Item}
 use Rattle.l2_code.specs.Trees.{Node, Do, Block, Loop, Nodes, none, more, tree_of, items_of}

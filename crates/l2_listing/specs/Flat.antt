@@ -1,6 +1,6 @@
 -- The flat list of code: its instructions one after another, numbered from 0. A jump goes to a number, and a loop is a head and
 -- the end of a turn.
-use Rattle.std.specs.Prelude.{ℕ, suc, ◌+◌, List, [], ◌∷◌, ◌++◌, slice_index}
+use Rattle.std.specs.Prelude.{ℕ, ◌+◌, List, [], ◌∷◌, ◌++◌, slice_index}
 use Rattle.l2_code.specs.declared.action.Action.{Action}
 use Rattle.l2_code.specs.declared.action.Action.TheVariants as action
 use Rattle.l2_code.specs.Trees.{Node, Do, Block, Loop, Nodes, none, more}

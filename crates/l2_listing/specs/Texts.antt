@@ -129,25 +129,27 @@ instruction_text (Close l) = spaced (codes "close") (decimal l ∷ [])
 
 -- ---- lines
 
-abbrev pub line : List ℕ → List ℕ
-line text = text ++ codes "\n"
+-- a line of words parted by one space
+abbrev pub line : List ℕ → List (List ℕ) → List ℕ
+line w [] = w ++ codes "\n"
+line w (x ∷ xs) = w ++ (codes " " ++ line x xs)
 
 abbrev pub place_text : ℕ → ℕ → List ℕ
 place_text l c = decimal l ++ (codes ":" ++ decimal c)
 
 abbrev pub object_line : ℕ → CodeObject → List ℕ
-object_line n o = line (spaced (codes "object") (decimal n ∷ o.name ∷ decimal (length o.cells) ∷ []))
+object_line n o = line (codes "object") (decimal n ∷ o.name ∷ decimal (length o.cells) ∷ [])
 
 abbrev pub check_line : ℕ → CodeCheck → List ℕ
-check_line n c = line (spaced (codes "check") (decimal n ∷ kind_text c.kind ∷ place_text c.line c.col ∷ []))
+check_line n c = line (codes "check") (decimal n ∷ kind_text c.kind ∷ place_text c.line c.col ∷ [])
 
 abbrev pub instruction_line : ℕ → Instruction → List ℕ
-instruction_line n i = line (spaced (decimal n) (instruction_text i ∷ []))
+instruction_line n i = line (decimal n) (instruction_text i ∷ [])
 
 -- a line for each item, where the first has this number
 abbrev pub lines_from : {A : Type 0} → (ℕ → A → List ℕ) → ℕ → List A → List ℕ
-lines_from line n [] = []
-lines_from line n (x ∷ xs) = line n x ++ lines_from line (suc n) xs
+lines_from text n [] = []
+lines_from text n (x ∷ xs) = text n x ++ lines_from text (suc n) xs
 
 -- objects and checks, numbered from 1, and then the instructions, numbered from 0
 abbrev pub listing : CodeTree → List ℕ

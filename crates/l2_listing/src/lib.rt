@@ -3,9 +3,9 @@
 
 mod counting;
 mod flattening;
+mod printing;
 mod texts;
 mod words;
 
-pub use counting::count;
 pub use flattening::{Instruction, flat};
-pub use texts::action_text;
+pub use printing::listing;

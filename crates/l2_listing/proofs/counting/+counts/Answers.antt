@@ -1,6 +1,6 @@
-use Rattle.std.proofs.Common.{rules, ◌≡◌, min, ℕ, ◌+◌, sym, ap, ◌∙◌, arith, drop}
+use Rattle.std.proofs.Common.{ap, ◌∙◌, arith}
 use Rattle.std.proofs.lemmas.List.{drop_all}
-use Rattle.l2_code.specs.Trees.{Loop, tree_of, items_of}
+use Rattle.l2_code.specs.Trees.{tree_of, items_of}
 use Rattle.l2_code.specs.Sizes.{node_count, instructions}
 use Rattle.l2_code.proofs.Items.{tree_of-Loop}
 use Rattle.l2_listing.proofs.counting.+counts.Goals as goal

@@ -1,8 +1,8 @@
-use Rattle.std.proofs.Common.{rules, ◌≡◌, ℕ, suc, ◌+◌, ◌-◌, ◌<◌, ◌≤◌, ◌++◌, List, [], ◌∷◌, OnOk, sym, ap, subst, ◌∙◌, arith, drop, length, append_assoc}
-use Rattle.l2_code.specs.Trees.{Node, Loop, tree_of, items_of}
+use Rattle.std.proofs.Common.{◌≡◌, ℕ, suc, ◌-◌, ◌<◌, ◌++◌, sym, ap, ◌∙◌, arith, length}
+use Rattle.l2_code.specs.Trees.{tree_of, items_of}
 use Rattle.l2_code.specs.Sizes.{node_count, instructions}
 use Rattle.l2_code.proofs.Items.{tree_of-Loop}
-use Rattle.l2_listing.specs.Flat.{Head, Close, flat, flat_of}
+use Rattle.l2_listing.specs.Flat.{flat, flat_of}
 use Rattle.l2_listing.proofs.Items.{weight, weights, weight_at, counts_behind}
 use Rattle.l2_listing.proofs.Loops.{made}
 use Rattle.l2_listing.proofs.flattening.+flattening.Goals as goal
@@ -44,7 +44,7 @@ flatten_item-returns-in_ok-put-in-Loop-2-clause-later t c =
     let old = c.args.f.now.later in
     let closed = c.put.new.self.later in
     made c.in-Loop.l at next ends (items_of c.in-Loop.items.items) old closed c.flatten-in-Loop.new.f.later c.put-in-Loop.new.self.later
-        c.in_ok-put-in-Loop-2.ensures.at c.in_ok-put-in-Loop.ensures.later
-        (c.in_ok-flatten-in-Loop.ensures.later ∙ ap (λ e. flat next e (items_of c.deref-in-Loop.result.now) ++ closed) c.in_ok-put-in-Loop.ensures.ends ∙ ap (λ xs. flat next ends (items_of xs) ++ closed) c.deref-in-Loop.ensures.value)
-        c.in_ok-put-in-Loop-2.ensures.later
+    c.in_ok-put-in-Loop-2.ensures.at c.in_ok-put-in-Loop.ensures.later
+    (c.in_ok-flatten-in-Loop.ensures.later ∙ ap (λ e. flat next e (items_of c.deref-in-Loop.result.now) ++ closed) c.in_ok-put-in-Loop.ensures.ends ∙ ap (λ xs. flat next ends (items_of xs) ++ closed) c.deref-in-Loop.ensures.value)
+    c.in_ok-put-in-Loop-2.ensures.later
     ∙ ap (λ x. flat_of at ends x ++ old) (sym (ap tree_of c.in-Loop.is ∙ tree_of-Loop c.in-Loop.l c.in-Loop.items))
