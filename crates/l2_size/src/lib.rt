@@ -1,0 +1,4 @@
+//! What code weighs when its loops are unwound.
+#![tactic(auto)]
+
+mod tables;
