@@ -37,7 +37,7 @@ taken : (p : Bool) (c x : ℕ) → p ≡ true → (if p then c + x else x) ≡ c
 taken true c x e = refl
 taken false c x e = cc
 
-none_in : (a : Member → Bool) (ty : CellType) (n : ℕ) (objects : List CodeObject) → ((o : ℕ) → n < suc o → a (Object o) ≡ false) → cells_in a ty n objects ≡ 0
+pub none_in : (a : Member → Bool) (ty : CellType) (n : ℕ) (objects : List CodeObject) → ((o : ℕ) → n < suc o → a (Object o) ≡ false) → cells_in a ty n objects ≡ 0
 none_in a ty n [] d = refl
 none_in a ty n (o ∷ rest) d =
     passed (a (Object n)) (cells_of_type ty o.cells) (cells_in a ty (suc n) rest) (d n (omega arith)) ∙ none_in a ty (suc n) rest (λ p h. d p (omega arith))

@@ -8,14 +8,15 @@ use Rattle.l2_runs.specs.Members.{has}
 use Rattle.l2_code.specs.declared.code.CodeObject.{CodeObject}
 use Rattle.l2_code.specs.declared.sets.PointsTo.{PointsTo}
 use Rattle.l2_code.specs.declared.sets.Sets.{Sets}
-use Rattle.l2_code.specs.Trees.{CodeTree}
+use Rattle.l2_code.specs.declared.code.Code.{Code}
+use Rattle.l2_code.specs.Sets.{AllRise}
 use Rattle.l2_code.specs.Sizes.{cells_of_type, cells_in}
 use Rattle.l2_size.specs.declared.tables.Table.{Table}
 use Rattle.l2_size.specs.Capped.{capped}
 
 -- what is weighed: a code with its sets, for so many copies of each turn, where a loop has so many rows
 pub record Load : Type 0 where
-  pub code : CodeTree
+  pub code : Code
   pub sets : Sets
   pub copies : ℕ
   pub rows : List ℕ
@@ -49,3 +50,8 @@ pub record IsTable (objects : List CodeObject) (sets : List PointsTo) (t : Table
 abbrev pub AreTables : List CodeObject → List PointsTo → List Table → Type 0
 AreTables objects sets [] = Unit {0}
 AreTables objects sets (t ∷ ts) = IsTable objects sets t × AreTables objects sets ts
+
+-- the sets are in order, and the tables are right
+pub record AreRight (objects : List CodeObject) (sets : List PointsTo) (made : List Table) : Type 0 where
+  pub rise : AllRise sets
+  pub tables : AreTables objects sets made
