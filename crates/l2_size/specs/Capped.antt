@@ -1,5 +1,5 @@
 -- Numbers that stop at the last one of 64 bits.
-use Rattle.std.specs.Prelude.{ℕ, ◌-◌, ◌^◌, min}
+use Rattle.std.specs.Prelude.{ℕ, min}
 
 -- the number, or the last one of 64 bits where it is larger
 abbrev pub capped : ℕ → ℕ

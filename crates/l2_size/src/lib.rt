@@ -2,4 +2,7 @@
 #![tactic(auto)]
 
 mod scale;
+mod sizes;
 mod tables;
+
+pub use sizes::size;

@@ -1,5 +1,6 @@
 // What single instructions weigh.
-ghost use Rattle.std.specs.Prelude.{◌≡◌, true, Contains, MatchOption, IfOk};
+ghost use Rattle.std.specs.Prelude.{◌≡◌, true, List, [], ◌∷◌, length, Contains, MatchOption, IfOk};
+ghost use Rattle.l2_runs.specs.declared.cells.CellType.{CellType};
 ghost use Rattle.l2_runs.specs.Numbers.{at_number};
 ghost use Rattle.l2_runs.specs.Members.{has};
 ghost use Rattle.l2_code.specs.Trees.{code_of};
@@ -38,6 +39,27 @@ fn entry_at(entries: &[u32], number: u32) -> u32
             None => 0,
         },
         None => 0,
+    }
+}
+
+fn operator_weight(operator: Operator) -> u64
+    ensures { result ≡ operator_weight operator }
+{
+    match operator {
+        Operator::Add => 1,
+        Operator::Sub => 1,
+        Operator::Mul => 64,
+        Operator::Div => 128,
+        Operator::Rem => 128,
+        Operator::Shl => 1,
+        Operator::Shr => 1,
+        Operator::And => 1,
+        Operator::Or => 1,
+        Operator::Xor => 1,
+        Operator::Eq => 1,
+        Operator::Ne => 1,
+        Operator::Lt => 1,
+        Operator::Le => 1,
     }
 }
 
@@ -136,5 +158,144 @@ impl<'a> Scale<'a> {
             },
             None => &[],
         }
+    }
+
+    /// The type of the first cell of a pointed type.
+    fn first_type(&self, pointed: u32) -> Option<CellType>
+        ensures { MatchOption result
+            (pointed_cells (at_number self.now.code.pointed pointed) ≡ [])
+            (λ ty. (rest : List CellType) × (pointed_cells (at_number self.now.code.pointed pointed) ≡ ty ∷ rest)) }
+    {
+        match self.pointed_cells(pointed).split_first() {
+            Some((ty, _)) => Some(*ty),
+            None => None,
+        }
+    }
+
+    /// What an address adds to the weight of what looks at the cells of a pointed type there.
+    fn first_reach(&mut self, alloc: Global, pointed: u32, at: Operand) -> Result<u64, AllocError>
+        ensures same { self.new ≡ self.old }
+        ensures is { IfOk result (λ n. n ≡ capped (first_reach (code_of self.old.code) (family self.old.sets) (pointed_cells (at_number self.old.code.pointed pointed)) at)) }
+    {
+        match self.first_type(pointed) {
+            Some(ty) => self.reach(alloc, ty, at),
+            None => Ok(0),
+        }
+    }
+
+    fn test_weight(&mut self, alloc: Global, test: &Test) -> Result<u64, AllocError>
+        ensures same { self.new ≡ self.old }
+        ensures is { IfOk result (λ n. n ≡ capped (test_weight (code_of self.old.code) (family self.old.sets) test.now)) }
+    {
+        match test {
+            Test::Division(_, _, _) => Ok(1),
+            Test::Shift(_, _) => Ok(1),
+            Test::Overflow(_, _, _, _) => Ok(1),
+            Test::Index(_, _) => Ok(1),
+            Test::IndexEnd(_, _) => Ok(1),
+            Test::Null(_) => Ok(1),
+            Test::Invalid(_) => Ok(1),
+            Test::Live(_) => Ok(1),
+            Test::Cells(pointed, at) => {
+                let n = self.first_reach(alloc, *pointed, *at)?;
+                Ok(n.saturating_add(1))
+            }
+            Test::Move(_, _, _) => Ok(1),
+            Test::Same(_, _) => Ok(1),
+        }
+    }
+
+    fn computation_weight(
+        &mut self,
+        alloc: Global,
+        computation: &Computation,
+    ) -> Result<u64, AllocError>
+        ensures same { self.new ≡ self.old }
+        ensures is { IfOk result (λ n. n ≡ capped (computation_weight (code_of self.old.code) (family self.old.sets) computation.now)) }
+    {
+        match computation {
+            Computation::Numbers(operator, _, _, _) => Ok(operator_weight(*operator)),
+            Computation::Convert(_, _) => Ok(1),
+            Computation::Move(_, _, _) => Ok(1),
+            Computation::Pointers(_, _, _) => Ok(1),
+            Computation::Passes(test) => self.test_weight(alloc, test),
+        }
+    }
+
+    /// What an instruction weighs.
+    pub fn weight(&mut self, alloc: Global, action: &Action) -> Result<u64, AllocError>
+        ensures same { self.new ≡ self.old }
+        ensures is { IfOk result (λ n. n ≡ capped (weight (code_of self.old.code) (family self.old.sets) action.now)) }
+    {
+        match action {
+            Action::Compute(_, computation) => self.computation_weight(alloc, computation),
+            Action::Read(_, ty, at) => {
+                let n = self.reach(alloc, *ty, *at)?;
+                Ok(n.saturating_add(1))
+            }
+            Action::Write(ty, at, _) => {
+                let n = self.reach(alloc, *ty, *at)?;
+                Ok(n.saturating_add(1))
+            }
+            Action::Choice(_, _) => Ok(1),
+            Action::Assume(_) => Ok(1),
+            Action::Check(_, _) => Ok(1),
+            Action::Unless(_, _) => Ok(1),
+            Action::Goto(_) => Ok(1),
+            Action::Live(_) => Ok(1),
+            Action::Dead(_) => Ok(1),
+            Action::End => Ok(1),
+        }
+    }
+
+    /// The objects that a loop may change.
+    fn mods(&self, l: u32) -> &[u32]
+        ensures { result.now ≡ mods_of (code_of self.now.code) l }
+    {
+        match index_of(l) {
+            Some(i) => match self.code.loops.as_slice().get(i) {
+                Some(found) => found.mods.as_slice(),
+                None => &[],
+            },
+            None => &[],
+        }
+    }
+
+    /// How many cells an object has.
+    fn cells(&self, object: u32) -> u64
+        ensures { result ≡ length (object_cells (at_number self.now.code.objects object)) }
+    {
+        match index_of(object) {
+            Some(i) => match self.code.objects.as_slice().get(i) {
+                Some(found) => found.cells.as_slice().len() as u64,
+                None => 0,
+            },
+            None => 0,
+        }
+    }
+
+    /// How many cells these objects have.
+    fn cells_among(&self, objects: &[u32]) -> u64
+        ensures { result ≡ capped (cells_among self.now.code.objects objects.now) }
+    {
+        let mut total: u64 = 0;
+        for object in objects {
+            total = total.saturating_add(self.cells(*object));
+        }
+        total
+    }
+
+    /// What a loop's head weighs.
+    pub fn head_weight(&self, l: u32) -> u64
+        ensures { result ≡ capped (head_weight (code_of self.now.code) l) }
+    {
+        self.cells_among(self.mods(l)).saturating_add(1)
+    }
+
+    /// What the end of a turn weighs.
+    pub fn end_weight(&self, l: u32) -> u64
+        ensures { result ≡ end_weight self.now.rows l }
+    {
+        u64::from(entry_at(self.rows, l)) + 1
     }
 }

@@ -1,4 +1,4 @@
-use Rattle.std.proofs.Common.{rules, ◌≡◌, ℕ, ◌+◌, ◌<◌, ◌++◌, List, [], ◌∷◌, map, length, get_or, drop, sym, ap, ◌∙◌, append_assoc}
+use Rattle.std.proofs.Common.{◌≡◌, ℕ, ◌+◌, ◌<◌, ◌++◌, List, [], ◌∷◌, map, length, get_or, drop, sym, ap, ◌∙◌, append_assoc}
 use Rattle.std.proofs.lemmas.List.{drop_more}
 use Rattle.l2_code.specs.declared.sets.PointsTo.{PointsTo}
 use Rattle.l2_size.specs.Capped.{capped}
@@ -20,8 +20,8 @@ loop-set-preserved c =
     let objects = c.args.objects.now in
     let ty = c.args.ty in
     pushed (set_count objects ty) c.args.sets.now c.loop-set.set-index s c.loop-set.counts.items c.push.new.self.items c.count_among.result
-        c.in_ok-push.ensures.items
-        (c.count_among.ensures ∙ ap (λ each. capped (count_among each c.as_slice.result.now)) (c.deref.ensures.value ∙ c.in_ok-each.ensures)
-            ∙ ap (λ ms. capped (count_among (map (object_count ty) objects) ms)) c.as_slice.ensures
-            ∙ set_count_is ty objects s (rises_at c.args.sets.now c.loop-set.set-index s c.loop-set-test.true c.set-item.is c.requires))
-        c.loop-set-test.true c.set-item.is c.loop-set.invariant
+    c.in_ok-push.ensures.items
+    (c.count_among.ensures ∙ ap (λ each. capped (count_among each c.as_slice.result.now)) (c.deref.ensures.value ∙ c.in_ok-each.ensures)
+    ∙ ap (λ ms. capped (count_among (map (object_count ty) objects) ms)) c.as_slice.ensures
+    ∙ set_count_is ty objects s (rises_at c.args.sets.now c.loop-set.set-index s c.loop-set-test.true c.set-item.is c.requires))
+    c.loop-set-test.true c.set-item.is c.loop-set.invariant

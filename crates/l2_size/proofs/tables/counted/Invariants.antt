@@ -1,5 +1,5 @@
 use Rattle.std.proofs.Common.{◌≡◌, ◌++◌, map, drop}
-use Rattle.l2_size.specs.Tables.{object_count, set_count}
+use Rattle.l2_size.specs.Tables.{set_count}
 use Rattle.l2_size.proofs.tables.counted.Given as goal
 
 abbrev pub invariant-loop-set : goal.invariant-loop-set

@@ -1,10 +1,10 @@
-use Rattle.std.proofs.Common.{rules, ◌≡◌, ◌++◌, List, [], ◌∷◌, sym, ap, ◌∙◌, subst}
+use Rattle.std.proofs.Common.{sym, ap, ◌∙◌, subst}
 use Rattle.l2_runs.specs.Numbers.{at_number}
 use Rattle.l2_runs.specs.Members.{has}
 use Rattle.l2_code.specs.Sets.{members_of}
 use Rattle.l2_code.specs.Sizes.{cells_in}
 use Rattle.l2_size.specs.Capped.{capped}
-use Rattle.l2_size.specs.Tables.{or_zero, IsTable, AreTables}
+use Rattle.l2_size.specs.Tables.{or_zero, AreTables}
 use Rattle.l2_size.proofs.Reaches.{read_off, same_as, among, one_more, made}
 use Rattle.l2_size.proofs.scale.Scale.set_reach.Goals as goal
 
@@ -25,8 +25,8 @@ invariant_of-self-2 c =
     let t = c.in_ok-table.table in
     let is = made objects c.as_slice-2.result.now sets c.as_slice-3.result.now t c.args.ty c.as_slice-2.ensures c.as_slice-3.ensures c.in_ok-table.ensures.0 c.in_ok-table.ensures.1 in
     record {
-        rise = c.self.invariant.rise;
-        tables = subst (AreTables objects sets) (sym c.in_ok-push.ensures.items) (one_more objects sets c.self.inside.tables.items t c.self.invariant.tables is)
+      rise = c.self.invariant.rise;
+      tables = subst (AreTables objects sets) (sym c.in_ok-push.ensures.items) (one_more objects sets c.self.inside.tables.items t c.self.invariant.tables is);
     }
 
 pub returns-clause-is : goal.returns-clause-is
