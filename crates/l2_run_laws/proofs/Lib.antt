@@ -1,2 +1,4 @@
 pub mod Kept
 pub mod CutRuns
+pub mod Judging
+pub mod CutLoops
