@@ -2,3 +2,4 @@ pub mod Kept
 pub mod CutRuns
 pub mod Judging
 pub mod CutLoops
+pub mod Frames
