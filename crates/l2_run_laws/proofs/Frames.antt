@@ -33,7 +33,7 @@ dead_there [] i o e = refl
 dead_there (x ∷ xs) zero o e = e
 dead_there (x ∷ xs) (suc i) o e = dead_there xs i o e
 
-dead_at : (store : Store) (m : ℕ) → (object_at (with_live store m false) m).live ≡ false
+pub dead_at : (store : Store) (m : ℕ) → (object_at (with_live store m false) m).live ≡ false
 dead_at store zero = refl
 dead_at store (suc i) = dead_there store i (record (object_at store (suc i)) { live = false }) refl
 

@@ -3,3 +3,4 @@ pub mod CutRuns
 pub mod Judging
 pub mod CutLoops
 pub mod Frames
+pub mod LoopFrames
