@@ -4,3 +4,4 @@ pub mod Judging
 pub mod CutLoops
 pub mod Frames
 pub mod LoopFrames
+pub mod Scatters

@@ -1,6 +1,9 @@
 -- Rows at the ends of turns, and watches behind them.
 use Rattle.std.specs.Prelude.{◌≡◌, ℕ, Bool, true, false, List, [], ◌∷◌, ◌++◌}
-use Rattle.l2_runs.specs.Store.{Store}
+use Rattle.l2_runs.specs.declared.cells.CellValue.{CellValue}
+use Rattle.l2_runs.specs.declared.member.Member.{Member}
+use Rattle.l2_runs.specs.Store.{Store, object_at}
+use Rattle.l2_runs.specs.Members.{targets, Within}
 use Rattle.l2_runs.specs.Loops.{Test, Tests}
 
 abbrev pub alone : (ℕ → List Test) → Tests
@@ -23,3 +26,14 @@ no_rows l = []
 abbrev pub HoldAll : List Test → Store → Store → Type 0
 HoldAll [] a b = Unit {0}
 HoldAll (t ∷ ts) a b = (t.holds a b ≡ true) × HoldAll ts a b
+
+-- ---- pointers
+
+-- these cells point to members of a set alone
+abbrev pub CellsIn : (Member → Bool) → List CellValue → Type 0
+CellsIn set [] = Unit {0}
+CellsIn set (v ∷ vs) = Within (targets v) set × CellsIn set vs
+
+-- the cells of each object point to members of its set alone
+pub record InSets (sets : ℕ → Member → Bool) (store : Store) : Type 0 where
+  pub cells : (n : ℕ) → CellsIn (sets n) (object_at store n).cells
