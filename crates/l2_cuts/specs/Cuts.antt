@@ -1,13 +1,14 @@
 -- Cut runs of a program: each entry of a loop begins its turns from there, or from any store that differs at the objects
 -- which the loop may change and where the loop's rows hold; at most so many turns follow, and at the end of each the rows
 -- must hold.
-use Rattle.std.specs.Prelude.{ℕ, ℤ, Bool, true, false, List, [], ◌∷◌, ◌++◌, ◌+◌, length, Option, Some, None}
+use Rattle.std.specs.Prelude.{ℕ, ℤ, Bool, List, [], ◌∷◌, ◌+◌, length, Option, Some, None}
 use Rattle.l2_runs.specs.declared.member.Member.{Member}
 use Rattle.l2_runs.specs.Numbers.{at_number}
 use Rattle.l2_runs.specs.Store.{Store}
 use Rattle.l2_runs.specs.Runs.{End, Over, Fallen}
 use Rattle.l2_runs.specs.Loops.{Limit, Cut, Test, Tests}
 use Rattle.l2_runs.specs.Back.{back}
+use Rattle.l2_run_laws.specs.Watches.{alone, with_watches}
 use Rattle.l2_program.specs.declared.program.LoopInfo.{LoopInfo}
 use Rattle.l2_program.specs.Programs.{ProgramTree}
 use Rattle.l2_meaning.specs.Execution.{cells_of, exec, IsBroken}
@@ -32,14 +33,6 @@ cut_limit p sets k q = Cut k (back (cells_of p) sets (mods_of p) (starts q))
 -- the rows at the ends of a loop's turns
 abbrev pub rows_at : List LoopPoint → ℕ → List Test
 rows_at q l = rows_of (point_at q l)
-
-abbrev pub alone : (ℕ → List Test) → Tests
-alone rows counted l = rows l
-
--- the rows, and behind them the watches of the ends that count
-abbrev pub with_watches : (ℕ → List Test) → (ℕ → List Test) → Tests
-with_watches rows watches true l = rows l ++ watches l
-with_watches rows watches false l = rows l
 
 -- one watch: which turns of a loop it lets pass, by the stores at their heads and ends
 abbrev pub watch : List LoopPoint → (ℕ → Store → Store → Bool) → ℕ → List Test

@@ -1,13 +1,12 @@
 -- Which objects a run changes, and whose lifetimes it begins.
-use Rattle.std.proofs.Common.{◌≡◌, ℕ, zero, suc, ℤ, Bool, true, false, List, [], ◌∷◌, length, Option, Some, None, ◌⊎◌, inl, inr, refl, sym, ◌∙◌, subst}
+use Rattle.std.proofs.Common.{◌≡◌, ℕ, zero, suc, ℤ, Bool, true, false, List, [], ◌∷◌, length, ◌⊎◌, inl, inr, refl, sym, ◌∙◌}
 use Rattle.std.specs.Prelude.{◌||◌, ◌==◌, slice_get, slice_set}
 use Rattle.std.proofs.Math.ListN.{length-set}
 use Rattle.l2_runs.specs.declared.cells.CellValue.{CellValue}
-use Rattle.l2_runs.specs.declared.outcome.Outcome.TheVariants.{Broken, OutOfTurns}
+use Rattle.l2_runs.specs.declared.outcome.Outcome.TheVariants.{Broken}
 use Rattle.l2_runs.specs.Numbers.{set_number}
 use Rattle.l2_runs.specs.Store.{Object, Store, Address, or_nothing, object_at, with_live}
-use Rattle.l2_runs.specs.Runs.{State, End, Over, Fallen, Result, Go, Halt, Run, on_go, and_then, done, over, either, take_choice, choose, read, write, enliven, bury, bury_all, demand, check}
-use Rattle.l2_runs.specs.Loops.{Real, Test, Tests, Turn, events, or_events, tested, or_next, rounds, behind, spend_of, spend, loop_of}
+use Rattle.l2_runs.specs.Runs.{State, End, Over, Result, Go, Halt, Run, on_go, and_then, done, over, either, take_choice, choose, read, write, enliven, demand, check}
 
 -- ---- an object of a changed store
 

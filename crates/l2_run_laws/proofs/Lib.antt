@@ -5,3 +5,6 @@ pub mod CutLoops
 pub mod Frames
 pub mod LoopFrames
 pub mod Scatters
+pub mod Agreeing
+pub mod Meeting
+pub mod Bounds

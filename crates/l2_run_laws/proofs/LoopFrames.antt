@@ -5,7 +5,7 @@ use Rattle.l2_runs.specs.declared.outcome.Outcome.TheVariants.{OutOfTurns}
 use Rattle.l2_runs.specs.Store.{Object, Store, object_at, with_live}
 use Rattle.l2_runs.specs.Runs.{State, End, Over, Fallen, Result, Go, Halt, Run, on_go, and_then, done, bury_all, demand}
 use Rattle.l2_runs.specs.Loops.{Real, Test, Tests, Turn, events, or_events, tested, or_next, rounds, behind, spend_of, spend, loop_of}
-use Rattle.l2_run_laws.proofs.Frames.{at_set, length_set, dead_at, Frame, NoObject, Dead, frame_refl, FramedAt, Frames, then_framed, then_frames, done_frames, over_frames}
+use Rattle.l2_run_laws.proofs.Frames.{at_set, length_set, dead_at, Frame, NoObject, Dead, frame_refl, FramedAt, Frames, then_framed, then_frames, done_frames}
 
 -- ---- blocks
 

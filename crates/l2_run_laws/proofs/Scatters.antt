@@ -1,5 +1,5 @@
 -- Choices that bring a back start from one store to another.
-use Rattle.std.proofs.Common.{◌≡◌, ◌≢◌, ℕ, zero, suc, ◌<◌, ◌≤◌, ℤ, pos, negsuc, Bool, true, false, List, [], ◌∷◌, ◌++◌, length, Option, Some, None, ◌⊎◌, inl, inr, refl, sym, ap, ◌∙◌, subst, append_assoc, arith}
+use Rattle.std.proofs.Common.{◌≡◌, ◌≢◌, ℕ, zero, suc, ◌≤◌, ℤ, pos, Bool, true, false, List, [], ◌∷◌, ◌++◌, length, inl, inr, refl, sym, ap, ◌∙◌, subst, append_assoc, arith}
 use Rattle.std.specs.Prelude.{◌==◌, nat_le, slice_get, slice_set}
 use native.Mathlib.Decide.{ℕ_discrete}
 use Rattle.l2_bits.proofs.Wraps.{wrap_of_value}
@@ -9,11 +9,11 @@ use Rattle.l2_runs.specs.declared.cells.CellValue.{CellValue}
 use Rattle.l2_runs.specs.declared.cells.CellValue.TheVariants.{Number, Null, Invalid, At}
 use Rattle.l2_runs.specs.declared.member.Member.{Member}
 use Rattle.l2_runs.specs.declared.member.Member.TheVariants as member
-use Rattle.l2_runs.specs.Store.{Object, Store, Address, or_nothing, object_at, with_cell}
+use Rattle.l2_runs.specs.Store.{Object, Store, or_nothing, object_at, with_cell}
 use Rattle.l2_runs.specs.Fits.{Layout, CellFits, CellsFit, StoreFits}
-use Rattle.l2_runs.specs.Runs.{State, Result, Go, Run, on_go, and_then, done, stop, either, write}
+use Rattle.l2_runs.specs.Runs.{State, Go, Run, on_go, and_then, done, stop, either, write}
 use Rattle.l2_runs.specs.Members.{targets, Within}
-use Rattle.l2_runs.specs.Back.{where_so, on_member, pointer_of, any_value, scatter_cells, scatter, back}
+use Rattle.l2_runs.specs.Back.{where_so, on_member, any_value, scatter_cells, scatter, back}
 use Rattle.l2_run_laws.specs.Watches.{InSets, CellsIn}
 use Rattle.l2_run_laws.proofs.CutRuns.{at, Simulates}
 use Rattle.l2_run_laws.proofs.Frames.{at_set, length_set, Frame, NoObject}
