@@ -1,8 +1,8 @@
 -- What is found among specifiers, by going over them.
-use Rattle.std.proofs.Common.{◌≡◌, List, [], ◌∷◌, Option, None, Some, refl, ap, sym, ◌∙◌}
+use Rattle.std.proofs.Common.{◌≡◌, List, [], ◌∷◌, Option, Some, refl}
 use Rattle.l2_tree.specs.declared.operators.SpecifierWord.{SpecifierWord}
 use Rattle.l2_tree.specs.declared.expression.Specifier.{Specifier}
-use Rattle.l2_tree.specs.Trees.{SpecifierTree, SpecifierTrees, first_specifier, and_specifier}
+use Rattle.l2_tree.specs.Trees.{SpecifierTrees, and_specifier}
 use Rattle.l2_tree.specs.Build.{some_or}
 use Rattle.l2_tree.specs.Units.{specifier_tree, specifiers_onto}
 use Rattle.l2_syntax.specs.declared.place.Place.{Place}

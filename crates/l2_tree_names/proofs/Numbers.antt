@@ -1,10 +1,10 @@
 -- The words among specifiers tell the number type that their tally does.
-use Rattle.std.proofs.Common.{◌≡◌, refl, ap, sym, ◌∙◌, ℕ, zero, suc, Bool, true, false, cond, ◌||◌, leb, Option, None, Some}
+use Rattle.std.proofs.Common.{◌≡◌, refl, ap, sym, ◌∙◌, ℕ, zero, suc, Bool, true, false, ◌||◌, leb, None, Some, arith}
+use Rattle.std.proofs.lemmas.Bool.{le-leb}
 use Rattle.l2_syntax.specs.declared.place.Place.{Place}
-use Rattle.l2_syntax.specs.declared.token.Scalar.{Scalar}
 use Rattle.l2_tree.specs.declared.operators.SpecifierWord.{SpecifierWord}
 use Rattle.l2_tree.specs.declared.operators.SpecifierWord.TheVariants as word
-use Rattle.l2_tree.specs.Trees.{SpecifierTree, Word, TypeName, SpecifierTrees, first_specifier, and_specifier}
+use Rattle.l2_tree.specs.Trees.{SpecifierTree, Word, SpecifierTrees, first_specifier, and_specifier}
 use Rattle.l2_tree.specs.Build.{some_or}
 use Rattle.l2_tree_laws.specs.Specifiers.{Tally, nothing, with_word, with_specifier, tally, unsigned_word, is_unsigned, scalar_of, Base, number, other_of, base_of}
 use Rattle.l2_tree_names.specs.declared.specifiers.NumberWords.{NumberWords}
@@ -21,13 +21,16 @@ pub record Says (u : Bool) (t : Tally) (w : NumberWords) : Type 0 where
 twice : (n : ℕ) → (leb 1 n || leb 2 n) ≡ leb 2 (suc n)
 twice zero = refl
 twice (suc zero) = refl
-twice (suc (suc n)) = refl
+twice (suc (suc n)) = ap (λ b. b || leb 2 (suc (suc n))) (le-leb 1 (suc (suc n)) (omega arith)) ∙ sym (le-leb 2 (suc (suc (suc n))) (omega arith))
+
+one : (n : ℕ) → true ≡ leb 1 (suc n)
+one n = sym (le-leb 1 (suc n) (omega arith))
 
 says_word : (v : SpecifierWord) (p : Place) (u : Bool) (t : Tally) (w : NumberWords) → Says u t w → Says (unsigned_word (Word v p) || u) (with_word v t) (add_word v w)
 says_word word.Unsigned p u t w i = record { unsigned = refl; char = i.char; short = i.short; long = i.long; long_long = i.long_long }
-says_word word.Char p u t w i = record { unsigned = i.unsigned; char = refl; short = i.short; long = i.long; long_long = i.long_long }
-says_word word.Short p u t w i = record { unsigned = i.unsigned; char = i.char; short = refl; long = i.long; long_long = i.long_long }
-says_word word.Long p u t w i = record { unsigned = i.unsigned; char = i.char; short = i.short; long = refl; long_long = ap (λ b. b || w.is_long_long) i.long ∙ ap (λ b. leb 1 t.longs || b) i.long_long ∙ twice t.longs }
+says_word word.Char p u t w i = record { unsigned = i.unsigned; char = one t.chars; short = i.short; long = i.long; long_long = i.long_long }
+says_word word.Short p u t w i = record { unsigned = i.unsigned; char = i.char; short = one t.shorts; long = i.long; long_long = i.long_long }
+says_word word.Long p u t w i = record { unsigned = i.unsigned; char = i.char; short = i.short; long = one t.longs; long_long = ap (λ b. b || w.is_long_long) i.long ∙ ap (λ b. leb 1 t.longs || b) i.long_long ∙ twice t.longs }
 says_word v p u t w i = record { unsigned = i.unsigned; char = i.char; short = i.short; long = i.long; long_long = i.long_long }
 
 says_specifier : (x : SpecifierTree) (u : Bool) (t : Tally) (w : NumberWords) → Says u t w → Says (unsigned_word x || u) (with_specifier x t) (add_specifier x w)

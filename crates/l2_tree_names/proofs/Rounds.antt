@@ -1,5 +1,5 @@
 -- The first suffix and the last pointer of a declarator, as the first and the last of a list.
-use Rattle.std.proofs.Common.{◌≡◌, List, [], ◌∷◌, Option, None, Some, refl, ap, sym, ◌∙◌, get_or, length, nat_eq, Bool, true, false}
+use Rattle.std.proofs.Common.{◌≡◌, List, [], ◌∷◌, Option, None, Some, refl, ap, sym, ◌∙◌, get_or, length, nat_eq, Bool, false}
 use Rattle.std.specs.Prelude.{option_map}
 use Rattle.l2_tree.specs.declared.expression.Suffix.{Suffix}
 use Rattle.l2_tree.specs.declared.expression.Pointer.{Pointer}

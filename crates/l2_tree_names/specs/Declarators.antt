@@ -38,7 +38,7 @@ as_name k p = None
 abbrev pub first_word : (starred : Bool) → List Seen → Option DeclaredName
 first_word starred [] = None
 first_word starred (t ∷ ts) = cond (is mark.Star t.kind) (first_word true ts)
-    (cond (is mark.OpenParenthesis t.kind || starred && is mark.Const t.kind) (first_word false ts) (as_name t.kind t.at))
+    (cond (is mark.OpenParenthesis t.kind || is mark.Const t.kind && starred) (first_word false ts) (as_name t.kind t.at))
 
 -- ---- what stands round a name
 

@@ -1,5 +1,5 @@
 -- The number type that specifiers name, by which of its words are among them: no more has to be counted.
-use Rattle.std.specs.Prelude.{ℕ, Bool, true, false, cond, ◌||◌}
+use Rattle.std.specs.Prelude.{true, false, cond, ◌||◌}
 use Rattle.l2_syntax.specs.declared.token.Scalar.{Scalar}
 use Rattle.l2_syntax.specs.declared.token.Scalar.TheVariants as scalar
 use Rattle.l2_tree.specs.declared.operators.SpecifierWord.{SpecifierWord}

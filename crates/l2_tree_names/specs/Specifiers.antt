@@ -1,10 +1,9 @@
 -- Where the type begins that specifiers name, and what code says of it.
-use Rattle.std.specs.Prelude.{◌≡◌, Bool, true, false, cond, Option, None, Some}
+use Rattle.std.specs.Prelude.{◌≡◌, Option, None, Some}
 use Rattle.l2_syntax.specs.declared.place.Place.{Place}
 use Rattle.l2_grammar.specs.declared.states.Sort.{Sort}
 use Rattle.l2_grammar.specs.Trees.{Fits}
-use Rattle.l2_tree.specs.declared.operators.SpecifierWord.TheVariants as word
-use Rattle.l2_tree.specs.Trees.{SpecifierTree, Word, SpecifierTrees, first_specifier, and_specifier, DeclaredTrees, Declaration}
+use Rattle.l2_tree.specs.Trees.{SpecifierTree, SpecifierTrees, first_specifier, and_specifier, DeclaredTrees, Declaration}
 use Rattle.l2_tree.specs.Build.{some_or}
 use Rattle.l2_tree.specs.Spelling.{run_declaration}
 use Rattle.l2_tree.specs.Units.{specifier_tree}

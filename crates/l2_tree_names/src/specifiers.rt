@@ -121,10 +121,8 @@ fn other<'a>(x: &'a Specifier) -> Option<BaseType<'a>>
             | SpecifierWord::Const
             | SpecifierWord::Signed
             | SpecifierWord::Unsigned => None,
-            SpecifierWord::Char
-            | SpecifierWord::Short
-            | SpecifierWord::Int
-            | SpecifierWord::Long => None,
+            SpecifierWord::Char | SpecifierWord::Short | SpecifierWord::Int | SpecifierWord::Long =>
+                None,
         },
         Specifier::TypeName(name, place) => Some(BaseType::Named(*name, *place)),
         Specifier::Struct(..)

@@ -1,4 +1,3 @@
-use Rattle.std.proofs.Common.{◌≡◌, refl, ap, sym, ◌∙◌}
 use Rattle.l2_tree_names.proofs.Rounds.{by_suffix, by_pointer}
 use Rattle.l2_tree_names.proofs.declarators.around.Goals as goal
 
