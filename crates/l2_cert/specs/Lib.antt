@@ -1,0 +1,5 @@
+pub mod Certificate
+pub mod Cursor
+pub mod Machine
+pub mod Reading
+pub mod Words
