@@ -1,3 +1,6 @@
+pub mod Files
+pub mod Goes
 pub mod Numerals
 pub mod Repeats
 pub mod Spaces
+pub mod Stands
