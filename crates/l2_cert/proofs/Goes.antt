@@ -38,7 +38,7 @@ fits_none : (kind : CertKind) → RanksFit kind [] []
 fits_none Safe = refl
 fits_none Terminating = tt
 
-last_is : (front : List LoopPoint) (p : LoopPoint) → last_loop (front ++ p ∷ []) ≡ p
+pub last_is : (front : List LoopPoint) (p : LoopPoint) → last_loop (front ++ p ∷ []) ≡ p
 last_is [] p = refl
 last_is (q ∷ []) p = refl
 last_is (q ∷ r ∷ front) p = last_is (r ∷ front) p

@@ -1,5 +1,5 @@
 -- A certificate that is being read, line by line: what comes next, and what each line makes of it.
-use Rattle.std.specs.Prelude.{◌≡◌, ◌⊎◌, ℕ, zero, suc, ◌^◌, ◌<◌, ◌≤◌, Bool, List, [], ◌∷◌, ◌++◌, length}
+use Rattle.std.specs.Prelude.{◌≡◌, ◌⊎◌, ℕ, zero, suc, ◌^◌, ◌<◌, ◌≤◌, Bool, false, List, [], ◌∷◌, ◌++◌, length}
 use Rattle.l2_cnf.specs.Steps.{Step}
 use Rattle.l2_templates.specs.declared.form.Form.{Form}
 use Rattle.l2_templates.specs.declared.form.Row.{Row}
@@ -37,6 +37,10 @@ pub record State : Type 0 where
 
 abbrev pub at : Place → Cert → State
 at place c = record { place = place; cert = c }
+
+-- where nothing was read
+abbrev pub nothing : Cert
+nothing = record { kind = Safe; overflow = false; k = 0; point = []; ranks = []; goals = [] }
 
 -- ---- where so many are to come
 
