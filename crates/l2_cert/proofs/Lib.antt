@@ -5,4 +5,5 @@ pub mod Numerals
 pub mod Repeats
 pub mod Spaces
 pub mod Stands
+pub mod Unique
 pub mod Whole

@@ -5,6 +5,8 @@
 
 mod cert;
 mod forms;
+mod lines;
+mod reading;
 mod steps;
 mod words;
 
