@@ -5,7 +5,9 @@
 
 mod cert;
 mod forms;
+mod goals;
 mod lines;
+mod loops;
 mod reading;
 mod steps;
 mod words;
