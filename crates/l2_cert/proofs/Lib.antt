@@ -2,6 +2,7 @@ pub mod Files
 pub mod Finish
 pub mod Goes
 pub mod Numerals
+pub mod Plain
 pub mod Repeats
 pub mod Spaces
 pub mod Stands
