@@ -1,6 +1,7 @@
 -- A line cut at its spaces.
 use Rattle.std.proofs.Common.{◌≡◌, ◌≢◌, ℕ, Bool, true, false, cond, List, [], ◌∷◌, ◌++◌, refl, sym, ap, subst, ◌∙◌, ⊎_elim, ◌==◌, rules}
 use Rattle.std.proofs.lemmas.Bool.Decides.{eqb_tells}
+use Rattle.std.proofs.lemmas.Bool.{eqb-true}
 use Rattle.std.proofs.lemmas.List.Elements.{All-nil, All-cons, All-head, All-tail}
 use Rattle.l2_cert.specs.Words.{HasNoSpace, IsWord, Word, before_first_word, spaced, words_of}
 
@@ -32,3 +33,19 @@ some_word (b ∷ text) is = go (b == 32) is
     go : (test : Bool) → cond test ([] ∷ words_of text) (before_first_word b (words_of text)) ≢ []
     go true same = cc
     go false same = first (words_of text) same
+
+-- the words of a line, joined, are the line
+pub joined : (text : List ℕ) → spaced (words_of text) ≡ text
+joined [] = refl
+joined (b ∷ text) = go (b == 32) refl (words_of text) (joined text) (some_word text)
+  where
+    front : (b : ℕ) (words : List Word) → spaced (before_first_word b words) ≡ b ∷ spaced words
+    front b [] = refl
+    front b (w ∷ []) = refl
+    front b (w ∷ v ∷ words) = refl
+    behind : (words : List Word) → words ≢ [] → spaced ([] ∷ words) ≡ 32 ∷ spaced words
+    behind [] some = absurd (some refl)
+    behind (w ∷ words) some = refl
+    go : (test : Bool) → (b == 32) ≡ test → (words : List Word) → spaced words ≡ text → words ≢ [] → spaced (cond (b == 32) ([] ∷ words) (before_first_word b words)) ≡ b ∷ text
+    go true is words rest some = ap (λ t. spaced (cond t ([] ∷ words) (before_first_word b words))) is ∙ behind words some ∙ (λ i. sym (eqb-true b 32 is) i ∷ rest i)
+    go false is words rest some = ap (λ t. spaced (cond t ([] ∷ words) (before_first_word b words))) is ∙ front b words ∙ ap (λ t. b ∷ t) rest
