@@ -1,7 +1,8 @@
 -- The bytes of a certificate, and the first line that no certificate has.
-use Rattle.std.proofs.Common.{◌≡◌, ◌≢◌, ◌⊎◌, inl, inr, ⊎_elim, ℕ, ◌+◌, ◌<◌, List, [], ◌∷◌, ◌++◌, length, map, refl, sym, ap, subst, ◌∙◌, get_or, drop, append_assoc, append-nil, arith}
+use Rattle.std.proofs.Common.{◌≡◌, ◌≢◌, inl, inr, ℕ, ◌+◌, ◌<◌, List, [], ◌∷◌, ◌++◌, length, map, refl, sym, ap, subst, ◌∙◌, get_or, drop, append_assoc, append-nil, arith}
 use Rattle.std.specs.List.{All, concat}
-use Rattle.std.proofs.lemmas.List.{map-append}
+use Rattle.std.proofs.lemmas.List.{length-map, map-append}
+use Rattle.std.proofs.lemmas.List.Folds.{concat-append}
 use Rattle.std.proofs.lemmas.List.Elements.{All-head, All-tail, All-nil, All-cons}
 use Rattle.l2_lines.specs.Lines.{Begins, GoesOnInNone, IsFirstBad, IsLine, ended, lines_of}
 use Rattle.l2_lines.proofs.Cuts.{AllEnded, ended_among, lines_of-concat, lines_of-ended, lines_of-open, open_is_no_line, same_line}
@@ -10,10 +11,16 @@ use Rattle.l2_cert.specs.Words.{Word, line_of, spaced, words_of}
 use Rattle.l2_cert.specs.Certificate.{IsFile, InGrammar, file_lines, spelling}
 use Rattle.l2_cert.specs.Machine.{State, Goes, GoesBy, at, nothing, AtFirst, Done}
 use Rattle.l2_cert.specs.Kept.{Kept, seen}
+use Rattle.l2_cert.specs.declared.reading.Reading.{Reading}
+use Rattle.l2_cert.specs.declared.reading.Stage.{Stage}
+use Rattle.l2_cert.specs.declared.reading.Stage.TheVariants.{First, Kind, Checks, Copies, Loops, Loop, Row, Ranks, Rank, Goals, Goal, Step, End, Over}
+use Rattle.l2_cert.specs.Reading.{StopsAt, place_at, state_of}
 use Rattle.l2_cert.proofs.Finish.{begins}
+use Rattle.l2_cert.proofs.Goes.{goes_on_by}
+use Rattle.l2_cert.proofs.Spaces.{joined}
 use Rattle.l2_cert.proofs.Plain.{AreWords, file_are, lines_ended, words_again}
 use Rattle.l2_cert.proofs.Unique.{one_end, parted}
-use Rattle.l2_cert.proofs.Whole.{file_goes}
+use Rattle.l2_cert.proofs.Whole.{file_goes, then_by}
 
 -- what was read from the beginning
 pub record WasRead (s : State) : Type 0 where
@@ -101,3 +108,57 @@ only_one bytes c d read lines fits is =
     let same = same_lines (file_lines c) (file_lines d) (seen_are (at Done c) read) (file_are d fits) (sym lines ∙ spelling_lines bytes d fits is) in
     let end = one_end (at AtFirst nothing) (at Done c) (at Done d) (file_lines d) (subst (λ ls. GoesBy (at AtFirst nothing) ls (at Done c)) same read.goes) (file_goes d fits) in
     ap (λ s. s.cert) end
+
+-- ---- one more line
+
+pub read_more : (s t : State) (line : List ℕ) → WasRead s → Goes s (words_of line) t → WasRead t × (map line_of (seen t) ≡ map line_of (seen s) ++ ended line ∷ [])
+read_more s t line read goes =
+    let stands = goes_on_by s t (words_of line ∷ []) read.kept (t, goes, refl) in
+    let by : GoesBy (at AtFirst nothing) (seen s ++ words_of line ∷ []) t = then_by (at AtFirst nothing) s t (seen s) (words_of line ∷ []) read.goes (t, goes, refl) in (
+      record { kept = stands.kept; goes = subst (λ ls. GoesBy (at AtFirst nothing) ls t) (sym stands.lines_are) by },
+      ap (map line_of) stands.lines_are ∙ map-append line_of (seen s) (words_of line ∷ []) ∙ ap (λ text. map line_of (seen s) ++ ended text ∷ []) (joined line),
+    )
+
+pub read_nothing : WasRead (at AtFirst nothing)
+read_nothing = record { kept = record { no_loop = refl; no_ranking = refl; no_goal = refl }; goes = refl }
+
+pub bytes_more : (bytes text line rest : List ℕ) (lines : List (List ℕ)) → bytes ≡ concat lines ++ text → text ≡ ended line ++ rest → bytes ≡ concat (lines ++ ended line ∷ []) ++ rest
+bytes_more bytes text line rest lines so is =
+    so ∙ ap (λ t. concat lines ++ t) is
+    ∙ sym (ap (λ x. x ++ rest) (concat-append lines (ended line ∷ [])) ∙ ap (λ x. (concat lines ++ x) ++ rest) (append-nil (ended line)) ∙ append_assoc (concat lines) (ended line) rest)
+
+pub lines_more : (bytes text line rest : List ℕ) (lines : List (List ℕ)) → lines_of bytes ≡ lines ++ lines_of text → IsLine line → text ≡ ended line ++ rest → lines_of bytes ≡ (lines ++ ended line ∷ []) ++ lines_of rest
+lines_more bytes text line rest lines so whole is =
+    so ∙ ap (λ t. lines ++ lines_of t) is ∙ ap (λ ls. lines ++ ls) (lines_of-ended line rest whole) ∙ sym (append_assoc lines (ended line ∷ []) (lines_of rest))
+
+-- where a line isn't taken, it is the first bad one
+pub first_bad : (bytes : List ℕ) (s : State) (line : ℕ) (rest : List (List ℕ)) → lines_of bytes ≡ map line_of (seen s) ++ rest → line ≡ length (seen s) + 1 → WasRead s → GoesOnInNone IsFile (map line_of (seen s)) rest → IsFirstBad IsFile (lines_of bytes) line
+first_bad bytes s line rest parts count read stops = (map line_of (seen s), rest, parts, (let same = length-map (seen s) line_of in omega (arith, count, same)), lines_begin s read, stops)
+
+pub stops_there : (s : State) (text : List ℕ) → 0 < length text → WasRead s → StopsAt s text → GoesOnInNone IsFile (map line_of (seen s)) (lines_of text)
+stops_there s text some read (inl whole) = open_line (map line_of (seen s)) text some whole
+stops_there s text some read (inr (line, rest, whole, is, none)) = stopped s text line rest read whole is none
+
+pub empty : (xs : List ℕ) → length xs ≡ 0 → xs ≡ []
+empty [] none = refl
+empty (x ∷ xs) none = absurd (omega arith)
+
+-- a reading that isn't over
+not_over : (stage : Stage) (r : Reading) → stage ≢ Over → place_at stage r ≢ Done
+not_over First r early is = cc
+not_over Kind r early is = cc
+not_over Checks r early is = cc
+not_over Copies r early is = cc
+not_over Loops r early is = cc
+not_over Loop r early is = cc
+not_over Row r early is = cc
+not_over Ranks r early is = cc
+not_over Rank r early is = cc
+not_over Goals r early is = cc
+not_over Goal r early is = cc
+not_over Step r early is = cc
+not_over End r early is = cc
+not_over Over r early is = early refl
+
+pub too_early : (r : Reading) → r.stage ≢ Over → (c : Cert) → state_of r ≢ at Done c
+too_early r early c is = not_over r.stage r early (ap (λ s. s.place) is)

@@ -1,14 +1,11 @@
 -- The lines of a certificate with one more loop, ranking or goal.
-use Rattle.std.proofs.Common.{◌≡◌, ℕ, zero, suc, ◌+◌, ◌≤◌, List, [], ◌∷◌, ◌++◌, length, map, refl, sym, ap, subst, ◌∙◌, append_assoc, append-nil, arith}
-use Rattle.std.proofs.lemmas.List.{length-append, map-append}
+use Rattle.std.proofs.Common.{◌≡◌, ℕ, suc, ◌+◌, ◌≤◌, List, [], ◌∷◌, ◌++◌, length, refl, sym, ap, ◌∙◌, append_assoc, append-nil, arith}
 use Rattle.l2_cnf.specs.Steps.{Step}
 use Rattle.l2_templates.specs.declared.form.Form.{Form}
 use Rattle.l2_templates.specs.declared.point.LoopPoint.{LoopPoint}
-use Rattle.l2_cert.specs.declared.cert.Cert.{Cert}
 use Rattle.l2_cert.specs.declared.cert.CertKind.{CertKind}
 use Rattle.l2_cert.specs.declared.cert.CertKind.TheVariants.{Safe, Terminating}
-use Rattle.l2_cert.specs.Words.{Word}
-use Rattle.l2_cert.specs.Certificate.{loop_lines, rank_lines, loops_lines, goal_lines, goals_lines, head_lines, AreRankings, IsRanking, RanksFit}
+use Rattle.l2_cert.specs.Certificate.{loop_lines, rank_lines, loops_lines, goal_lines, goals_lines, AreRankings, IsRanking, RanksFit}
 
 pub one_more_loop : (i j : ℕ) (point : List LoopPoint) (ranks : List (List Form)) (p : LoopPoint) → length ranks ≤ length point → j ≡ i + length point → loops_lines i (point ++ p ∷ []) ranks ≡ loops_lines i point ranks ++ loop_lines j p
 one_more_loop i j [] [] p few is = let same : j ≡ i = omega (arith, is) in append-nil (loop_lines i p) ∙ ap (λ n. loop_lines n p) (sym same)

@@ -1,20 +1,17 @@
 -- From line to line: what was read begins some certificate, and each certificate can be read.
-use Rattle.std.proofs.Common.{◌≡◌, ◌⊎◌, inl, inr, ⊎_elim, ℕ, zero, suc, ◌+◌, ◌≤◌, ◌<◌, ◌^◌, Bool, true, false, List, [], ◌∷◌, ◌++◌, length, map, refl, sym, ap, subst, ◌∙◌, append_assoc, append-nil, arith}
+use Rattle.std.proofs.Common.{◌≡◌, inl, inr, ℕ, suc, ◌+◌, List, [], ◌∷◌, ◌++◌, length, map, refl, sym, ap, subst, ◌∙◌, append_assoc, append-nil, arith}
 use Rattle.std.specs.List.{All}
 use Rattle.std.proofs.lemmas.List.{length-append, map-append}
 use Rattle.std.proofs.lemmas.List.Elements.{All-nil, All-cons, All-append}
-use Rattle.l2_cnf.specs.Steps.{Step}
-use Rattle.l2_templates.specs.declared.form.Form.{Form}
-use Rattle.l2_templates.specs.declared.form.Row.{Row}
 use Rattle.l2_templates.specs.declared.point.LoopPoint.{LoopPoint}
-use Rattle.l2_templates.specs.declared.point.LoopPoint.TheVariants.{Bottom, Rows}
+use Rattle.l2_templates.specs.declared.point.LoopPoint.TheVariants.{Bottom}
 use Rattle.l2_cert.specs.declared.cert.Cert.{Cert}
 use Rattle.l2_cert.specs.Words.{Word}
 use Rattle.l2_cert.specs.declared.cert.CertKind.{CertKind}
 use Rattle.l2_cert.specs.declared.cert.CertKind.TheVariants.{Safe, Terminating}
-use Rattle.l2_cert.specs.Certificate.{bottom_line, loops_lines, goals_lines, loop_lines, head_lines, before_goals, goals_line, rows_line, ranks_line, goal_line, row_line, rank_line, step_line, end_line, file_lines, IsGoal, IsLoop, IsRow, IsForm, IsStep, RanksFit, RanksMay, InGrammar}
-use Rattle.l2_cert.specs.Machine.{Place, State, at, Goes, GoesBy, AtFirst, AtKind, AtChecks, AtCopies, AtLoops, AtLoop, AtRow, AtRanks, AtRank, AtGoals, AtGoal, AtStep, AtEnd, Done, loops_left, last_loop, rows_left, forms_left, goals_left, steps_left, with_loop}
-use Rattle.l2_cert.specs.Kept.{seen, seen_at, Kept, KeptAt, loops_so_far, goals_so_far, HasLoops, HasGoals, LacksOne, IsFresh}
+use Rattle.l2_cert.specs.Certificate.{bottom_line, loops_lines, goals_lines, head_lines, before_goals, goals_line, rows_line, ranks_line, goal_line, row_line, rank_line, step_line, end_line, IsGoal, IsLoop, IsRow, IsForm, IsStep, RanksFit, RanksMay}
+use Rattle.l2_cert.specs.Machine.{Place, State, at, Goes, GoesBy, AtFirst, AtKind, AtChecks, AtCopies, AtLoops, AtLoop, AtRow, AtRanks, AtRank, AtGoals, AtGoal, AtStep, AtEnd, Done, last_loop}
+use Rattle.l2_cert.specs.Kept.{seen, seen_at, Kept, KeptAt, loops_so_far, goals_so_far, HasLoops, HasGoals}
 use Rattle.l2_cert.proofs.Stands.{Stands, loops_stand, loop_stands, rows_stand, forms_stand, goals_stand, steps_stand}
 
 -- another state
@@ -107,12 +104,12 @@ goes_on (AtStep n r steps) c t line (some, has, few, all) (m, s, left, s_is, is,
     ∙ behind (goals_so_far c (suc n)) (goal_line (suc (length c.goals)) (length steps + r)) (map step_line steps) (step_line s)
     ∙ ap (λ l. seen_at (AtStep n r steps) c ++ l ∷ []) (sym is)) stands)
 goes_on AtEnd c t line has (is, next) = moved next (record {
-      kept = record { some_copies = has.copies.0; most_copies = has.copies.1; loops = has.loops; point = has.point; ranks = has.ranks; goal_count = omega (arith, has.few); goals = has.goals };
-      lines_are =
-        let all : length c.goals ≡ length c.goals + 0 = omega arith in
-        ap (λ k. ((before_goals c ++ goals_line k ∷ []) ++ goals_lines 1 c.goals) ++ end_line ∷ []) all
-        ∙ ap (λ l. goals_so_far c 0 ++ l ∷ []) (sym is);
-    })
+  kept = record { some_copies = has.copies.0; most_copies = has.copies.1; loops = has.loops; point = has.point; ranks = has.ranks; goal_count = omega (arith, has.few); goals = has.goals };
+  lines_are =
+      let all : length c.goals ≡ length c.goals + 0 = omega arith in
+      ap (λ k. ((before_goals c ++ goals_line k ∷ []) ++ goals_lines 1 c.goals) ++ end_line ∷ []) all
+      ∙ ap (λ l. goals_so_far c 0 ++ l ∷ []) (sym is);
+})
 goes_on Done c t line kept never = absurd never
 
 pub goes_on_by : (s t : State) (lines : List (List Word)) → Kept s → GoesBy s lines t → Stands t (seen s ++ lines)

@@ -1,5 +1,5 @@
 -- Literals and numbers of steps as words.
-use Rattle.std.proofs.Common.{◌≡◌, ◌≢◌, ℕ, suc, zero, ◌<◌, ◌^◌, ◌≤◌, ℤ, pos, negsuc, nat_abs, codes, refl, sym, ap, FitsSigned, arith}
+use Rattle.std.proofs.Common.{◌≡◌, ◌≢◌, ℕ, ℤ, pos, negsuc, nat_abs, codes, refl, ap, FitsSigned, arith}
 use Rattle.std.specs.Int.{w128}
 use Rattle.std.specs.Fmt.{decimal, signed_decimal}
 use Rattle.std.proofs.lemmas.Int.{ints}

@@ -1,6 +1,6 @@
 -- The lines of a certificate are lines of words.
-use Rattle.std.proofs.Common.{◌≡◌, ◌≢◌, ◌⊎◌, ℕ, zero, suc, ◌<◌, ◌≤◌, ◌^◌, ◌+◌, ℤ, pos, negsuc, nat_abs, Bool, true, false, not, ◌==◌, ◌||◌, ◌&&◌, cond, Option, Some, None, List, [], ◌∷◌, ◌++◌, length, map, codes, refl, sym, ap, subst, ◌∙◌, arith, append_assoc, append-nil}
-use Rattle.std.specs.List.{All, list_all, concat}
+use Rattle.std.proofs.Common.{◌≡◌, ◌≢◌, ℕ, zero, suc, ◌<◌, ◌^◌, ◌+◌, ℤ, pos, negsuc, nat_abs, Bool, true, false, not, ◌==◌, ◌&&◌, Option, Some, None, List, [], ◌∷◌, ◌++◌, length, map, codes, refl, sym, ap, subst, ◌∙◌, arith}
+use Rattle.std.specs.List.{All, list_all}
 use Rattle.std.specs.Fmt.{decimal, signed_decimal}
 use Rattle.std.specs.Str.Parse.{AllDigits}
 use Rattle.std.proofs.lemmas.Int.{ints}
@@ -13,8 +13,8 @@ use Rattle.l2_templates.specs.declared.form.Form.{Form}
 use Rattle.l2_templates.specs.declared.form.Row.{Row}
 use Rattle.l2_templates.specs.declared.point.LoopPoint.{LoopPoint}
 use Rattle.l2_templates.specs.declared.point.LoopPoint.TheVariants.{Bottom, Rows}
-use Rattle.l2_lines.specs.Lines.{IsLine, ended}
-use Rattle.l2_lines.proofs.Cuts.{AllEnded, all_ended-append}
+use Rattle.l2_lines.specs.Lines.{IsLine}
+use Rattle.l2_lines.proofs.Cuts.{AllEnded}
 use Rattle.l2_cert.specs.declared.cert.Cert.{Cert}
 use Rattle.l2_cert.specs.declared.cert.CertKind.{CertKind}
 use Rattle.l2_cert.specs.declared.cert.CertKind.TheVariants.{Safe, Terminating}

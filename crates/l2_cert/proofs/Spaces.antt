@@ -1,9 +1,9 @@
 -- A line cut at its spaces.
-use Rattle.std.proofs.Common.{◌≡◌, ◌≢◌, ℕ, Bool, true, false, cond, List, [], ◌∷◌, ◌++◌, refl, sym, ap, subst, ◌∙◌, ⊎_elim, ◌==◌, rules}
+use Rattle.std.proofs.Common.{◌≡◌, ◌≢◌, ℕ, Bool, true, false, cond, List, [], ◌∷◌, ◌++◌, refl, sym, ap, ◌∙◌, ⊎_elim, ◌==◌}
 use Rattle.std.proofs.lemmas.Bool.Decides.{eqb_tells}
 use Rattle.std.proofs.lemmas.Bool.{eqb-true}
-use Rattle.std.proofs.lemmas.List.Elements.{All-nil, All-cons, All-head, All-tail}
-use Rattle.l2_cert.specs.Words.{HasNoSpace, IsWord, Word, before_first_word, spaced, words_of}
+use Rattle.std.proofs.lemmas.List.Elements.{All-head, All-tail}
+use Rattle.l2_cert.specs.Words.{HasNoSpace, Word, before_first_word, spaced, words_of}
 
 is_other : (b : ℕ) → b ≢ 32 → (b == 32) ≡ false
 is_other b other = ⊎_elim (λ same. absurd (other same.1)) (λ so. so.0) (eqb_tells b 32)
@@ -30,6 +30,7 @@ some_word (b ∷ text) is = go (b == 32) is
     first : (words : List Word) → before_first_word b words ≢ []
     first [] same = cc
     first (w ∷ words) same = cc
+
     go : (test : Bool) → cond test ([] ∷ words_of text) (before_first_word b (words_of text)) ≢ []
     go true same = cc
     go false same = first (words_of text) same
@@ -43,9 +44,11 @@ joined (b ∷ text) = go (b == 32) refl (words_of text) (joined text) (some_word
     front b [] = refl
     front b (w ∷ []) = refl
     front b (w ∷ v ∷ words) = refl
+
     behind : (words : List Word) → words ≢ [] → spaced ([] ∷ words) ≡ 32 ∷ spaced words
     behind [] some = absurd (some refl)
     behind (w ∷ words) some = refl
+
     go : (test : Bool) → (b == 32) ≡ test → (words : List Word) → spaced words ≡ text → words ≢ [] → spaced (cond (b == 32) ([] ∷ words) (before_first_word b words)) ≡ b ∷ text
     go true is words rest some = ap (λ t. spaced (cond t ([] ∷ words) (before_first_word b words))) is ∙ behind words some ∙ (λ i. sym (eqb-true b 32 is) i ∷ rest i)
     go false is words rest some = ap (λ t. spaced (cond t ([] ∷ words) (before_first_word b words))) is ∙ front b words ∙ ap (λ t. b ∷ t) rest

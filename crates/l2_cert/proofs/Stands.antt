@@ -1,21 +1,21 @@
 -- What each line keeps: what was read is in range, and the line stands behind the lines that were read.
-use Rattle.std.proofs.Common.{◌≡◌, ◌⊎◌, inl, inr, ℕ, zero, suc, ◌+◌, ◌≤◌, ◌<◌, ◌^◌, List, [], ◌∷◌, ◌++◌, length, map, refl, sym, ap, subst, ◌∙◌, append_assoc, append-nil, arith}
+use Rattle.std.proofs.Common.{◌≡◌, ℕ, zero, suc, ◌+◌, ◌<◌, ◌^◌, List, [], ◌∷◌, ◌++◌, length, map, refl, sym, ap, subst, ◌∙◌, append_assoc, arith}
 use Rattle.std.specs.List.{All}
-use Rattle.std.proofs.lemmas.List.{length-append, map-append}
+use Rattle.std.proofs.lemmas.List.{length-append}
 use Rattle.std.proofs.lemmas.List.Elements.{All-nil, All-cons, All-append}
 use Rattle.l2_cnf.specs.Steps.{Step}
 use Rattle.l2_templates.specs.declared.form.Form.{Form}
 use Rattle.l2_templates.specs.declared.form.Row.{Row}
 use Rattle.l2_templates.specs.declared.point.LoopPoint.{LoopPoint}
-use Rattle.l2_templates.specs.declared.point.LoopPoint.TheVariants.{Bottom, Rows}
+use Rattle.l2_templates.specs.declared.point.LoopPoint.TheVariants.{Rows}
 use Rattle.l2_cert.specs.declared.cert.Cert.{Cert}
 use Rattle.l2_cert.specs.declared.cert.CertKind.{CertKind}
 use Rattle.l2_cert.specs.declared.cert.CertKind.TheVariants.{Safe, Terminating}
 use Rattle.l2_cert.specs.Words.{Word}
-use Rattle.l2_cert.specs.Certificate.{loop_lines, rank_lines, loops_lines, goal_lines, goals_lines, head_lines, before_goals, file_lines, end_line, goals_line, row_line, rank_line, step_line, rows_line, ranks_line, goal_line, bottom_line, AreRankings, IsRanking, IsLoop, IsRow, IsForm, IsStep, IsGoal, RanksFit, RanksMay, InGrammar}
-use Rattle.l2_cert.specs.Machine.{Place, State, at, Goes, GoesBy, AtFirst, AtKind, AtChecks, AtCopies, AtLoops, AtLoop, AtRow, AtRanks, AtRank, AtGoals, AtGoal, AtStep, AtEnd, Done, loops_left, ranks_left, with_loop, rows_left, forms_left, goals_left, steps_left, last_loop}
+use Rattle.l2_cert.specs.Certificate.{loop_lines, rank_lines, loops_lines, goal_lines, goals_lines, head_lines, before_goals, goals_line, row_line, rank_line, step_line, rows_line, ranks_line, goal_line, AreRankings, IsRanking, IsLoop, IsRow, IsForm, IsStep, IsGoal, RanksFit, RanksMay}
+use Rattle.l2_cert.specs.Machine.{State, at, loops_left, ranks_left, rows_left, forms_left, goals_left, steps_left}
 use Rattle.l2_cert.specs.Kept.{seen, Kept, loops_so_far, goals_so_far, HasLoops, HasGoals, LacksOne}
-use Rattle.l2_cert.proofs.Files.{few_rankings, one_more_goal, one_more_loop, one_more_ranking, rankings_count, rankings_more}
+use Rattle.l2_cert.proofs.Files.{few_rankings, one_more_goal, one_more_loop, one_more_ranking, rankings_more}
 
 -- what a state has read, and that it is kept
 pub record Stands (s : State) (lines : List (List Word)) : Type 0 where
@@ -40,16 +40,20 @@ loop_stands kind n c p is has ranks in_range = go kind is
   where
     wider : Cert
     wider = record c { point = c.point ++ p ∷ [] }
+
     count : length (c.point ++ p ∷ []) + n ≡ length c.point + suc n
     count = omega (arith, length-append c.point (p ∷ []))
+
     has_one : HasLoops wider n
     has_one = record { copies = has.copies; few = omega (arith, has.few, count); point = All-append IsLoop c.point (p ∷ []) has.point (All-cons IsLoop p [] in_range (All-nil IsLoop)); no_goal = has.no_goal }
+
     added : loops_so_far wider n ≡ loops_so_far c (suc n) ++ loop_lines (suc (length c.point)) p
     added =
         let index : suc (length c.point) ≡ 1 + length c.point = omega arith in
         ap (λ m. head_lines c m ++ loops_lines 1 (c.point ++ p ∷ []) c.ranks) count
         ∙ ap (λ l. head_lines c (length c.point + suc n) ++ l) (one_more_loop 1 (suc (length c.point)) c.point c.ranks p (few_rankings c.kind c.point c.ranks ranks) index)
         ∙ sym (append_assoc (head_lines c (length c.point + suc n)) (loops_lines 1 c.point c.ranks) (loop_lines (suc (length c.point)) p))
+
     go : (kind : CertKind) → c.kind ≡ kind → Stands (at (ranks_left kind n) wider) (loops_so_far c (suc n) ++ loop_lines (suc (length c.point)) p)
     go Safe safe =
         let none : c.ranks ≡ [] = subst (λ k. RanksFit k c.point c.ranks) safe ranks in
@@ -71,21 +75,28 @@ forms_stand zero n c forms has lacks few may all = record { kept = stands.kept; 
   where
     wider : Cert
     wider = record c { ranks = c.ranks ++ forms ∷ [] }
+
     has_same : HasLoops wider n
     has_same = record { copies = has.copies; few = has.few; point = has.point; no_goal = has.no_goal }
+
     ranking : IsRanking lacks.last forms
     ranking = (omega (arith, few), subst (RanksMay lacks.last) (add_nothing (length forms)) may, all)
+
     fit : RanksFit c.kind c.point (c.ranks ++ forms ∷ [])
     fit = subst (λ k. RanksFit k c.point (c.ranks ++ forms ∷ [])) (sym lacks.kind) (subst (λ point. AreRankings point (c.ranks ++ forms ∷ [])) (sym lacks.is) (rankings_more lacks.front lacks.last c.ranks forms lacks.ranks ranking))
+
     stands : Stands (at (loops_left n) wider) (loops_so_far wider n)
     stands = loops_stand n wider has_same fit
+
     count : length c.point ≡ 1 + length lacks.front
     count = omega (arith, ap length lacks.is, length-append lacks.front (lacks.last ∷ []))
+
     lines : loops_lines 1 c.point (c.ranks ++ forms ∷ []) ≡ loops_lines 1 c.point c.ranks ++ rank_lines (length c.point) forms
     lines =
         ap (λ point. loops_lines 1 point (c.ranks ++ forms ∷ [])) lacks.is
         ∙ one_more_ranking 1 (length c.point) lacks.front lacks.last c.ranks forms lacks.ranks count
         ∙ ap (λ point. loops_lines 1 point c.ranks ++ rank_lines (length c.point) forms) (sym lacks.is)
+
     added : loops_so_far wider n ≡ loops_so_far c n ++ ranks_line (length c.point) (length forms + 0) ∷ map rank_line forms
     added =
         ap (λ l. head_lines c (length c.point + n) ++ l) lines
@@ -104,12 +115,16 @@ steps_stand zero n c steps has few all = record { kept = stands.kept; lines_are 
   where
     wider : Cert
     wider = record c { goals = c.goals ++ steps ∷ [] }
+
     count : length (c.goals ++ steps ∷ []) + n ≡ length c.goals + suc n
     count = omega (arith, length-append c.goals (steps ∷ []))
+
     has_one : HasGoals wider n
     has_one = record { copies = has.copies; loops = has.loops; point = has.point; ranks = has.ranks; few = omega (arith, has.few, count); goals = All-append IsGoal c.goals (steps ∷ []) has.goals (All-cons IsGoal steps [] (omega (arith, few), all) (All-nil IsGoal)) }
+
     stands : Stands (at (goals_left n) wider) (goals_so_far wider n)
     stands = goals_stand n wider has_one
+
     added : goals_so_far wider n ≡ goals_so_far c (suc n) ++ goal_line (suc (length c.goals)) (length steps + 0) ∷ map step_line steps
     added =
         let index : suc (length c.goals) ≡ 1 + length c.goals = omega arith in

@@ -1,5 +1,5 @@
 -- A line makes one state of another, so bytes spell at most one certificate.
-use Rattle.std.proofs.Common.{◌≡◌, ◌≢◌, ◌⊎◌, inl, inr, ℕ, zero, suc, ◌^◌, ◌<◌, ◌≤◌, ℤ, pos, negsuc, Bool, true, false, Option, Some, None, List, [], ◌∷◌, ◌++◌, length, map, codes, refl, sym, ap, subst, ◌∙◌, get_or, drop, arith, FitsSigned}
+use Rattle.std.proofs.Common.{◌≡◌, ◌≢◌, inl, inr, ℕ, zero, suc, ◌^◌, ◌<◌, ℤ, pos, negsuc, Bool, true, false, Option, Some, None, List, [], ◌∷◌, ◌++◌, length, map, refl, sym, ap, subst, ◌∙◌, get_or, drop, arith, FitsSigned}
 use Rattle.std.specs.Int.{w128}
 use Rattle.std.specs.Fmt.{decimal, signed_decimal}
 use Rattle.std.proofs.lemmas.Int.{ints}
@@ -12,13 +12,10 @@ use Rattle.l2_cert.specs.declared.cert.Cert.{Cert}
 use Rattle.l2_cert.specs.declared.cert.CertKind.{CertKind}
 use Rattle.l2_cert.specs.declared.cert.CertKind.TheVariants.{Safe, Terminating}
 use Rattle.l2_cert.specs.Words.{Word}
-use Rattle.l2_cert.specs.Certificate.{kind_line, kind_word, checks_line, checks_word, bottom_line, rows_line, row_line, rank_line, step_line, form_words, second_words, sign_word, bound_words, IsBound, IsForm, IsSecond, IsRow, IsStep, IsNumber, IsLiteral, InGrammar, file_lines}
+use Rattle.l2_cert.specs.Certificate.{kind_word, checks_word, bottom_line, rows_line, row_line, step_line, form_words, second_words, sign_word, bound_words, IsBound, IsForm, IsSecond, IsRow, IsStep, IsNumber, IsLiteral}
 use Rattle.l2_cert.specs.Machine.{Place, State, at, Goes, GoesBy, AtFirst, AtKind, AtChecks, AtCopies, AtLoops, AtLoop, AtRow, AtRanks, AtRank, AtGoals, AtGoal, AtStep, AtEnd, Done, rows_left, forms_left, goals_left, loops_left, steps_left, with_loop}
 use Rattle.l2_cert.proofs.Numerals.{literal_is_not_zero, number_is_not_zero, same_literal, same_number}
 use Rattle.l2_cert.proofs.Repeats.{same_items}
-
-
-
 
 same_decimal : (m n : ℕ) → m < 2 ^ 64 → n < 2 ^ 64 → decimal m ≡ decimal n → m ≡ n
 same_decimal m n first second is = decimal_injective_wide m n (omega (arith, first)) (omega (arith, second)) is

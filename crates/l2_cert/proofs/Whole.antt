@@ -1,5 +1,5 @@
 -- Each certificate can be read to its end.
-use Rattle.std.proofs.Common.{◌≡◌, ◌⊎◌, inl, inr, ℕ, zero, suc, ◌+◌, ◌^◌, ◌<◌, ◌≤◌, List, [], ◌∷◌, ◌++◌, length, map, refl, sym, ap, subst, ◌∙◌, append_assoc, append-nil, arith}
+use Rattle.std.proofs.Common.{◌≡◌, inl, inr, ℕ, suc, List, [], ◌∷◌, ◌++◌, length, map, refl, sym, ap, subst, ◌∙◌, append_assoc, append-nil, arith}
 use Rattle.std.specs.List.{All}
 use Rattle.std.proofs.lemmas.List.Elements.{All-head, All-tail}
 use Rattle.std.proofs.lemmas.List.{length-append}
@@ -12,8 +12,8 @@ use Rattle.l2_cert.specs.declared.cert.Cert.{Cert}
 use Rattle.l2_cert.specs.declared.cert.CertKind.{CertKind}
 use Rattle.l2_cert.specs.declared.cert.CertKind.TheVariants.{Safe, Terminating}
 use Rattle.l2_cert.specs.Words.{Word}
-use Rattle.l2_cert.specs.Certificate.{head_lines, before_goals, first_line, kind_line, checks_line, copies_line, loops_line, bottom_line, rows_line, row_line, ranks_line, rank_line, goals_line, goal_line, step_line, end_line, file_lines, loop_lines, rank_lines, loops_lines, goal_lines, goals_lines, IsForm, IsRow, IsStep, IsLoop, IsGoal, IsRanking, AreRankings, RanksFit, RanksMay, InGrammar}
-use Rattle.l2_cert.specs.Machine.{State, at, Goes, GoesBy, AtFirst, AtKind, AtChecks, AtCopies, AtLoops, AtLoop, AtRow, AtRanks, AtRank, AtGoals, AtGoal, AtStep, AtEnd, Done, last_loop, loops_left, ranks_left, rows_left, forms_left, goals_left, steps_left, with_loop, nothing}
+use Rattle.l2_cert.specs.Certificate.{head_lines, before_goals, row_line, rank_line, goals_line, step_line, end_line, file_lines, loop_lines, rank_lines, loops_lines, goal_lines, goals_lines, IsForm, IsRow, IsStep, IsLoop, IsGoal, IsRanking, AreRankings, RanksFit, RanksMay, InGrammar}
+use Rattle.l2_cert.specs.Machine.{State, at, GoesBy, AtFirst, AtKind, AtChecks, AtCopies, AtLoops, AtRanks, AtGoals, AtEnd, Done, last_loop, loops_left, ranks_left, rows_left, forms_left, goals_left, steps_left, with_loop, nothing}
 use Rattle.l2_cert.proofs.Goes.{last_is}
 
 pub then_by : (s t u : State) (xs ys : List (List Word)) → GoesBy s xs t → GoesBy t ys u → GoesBy s (xs ++ ys) u
@@ -69,8 +69,8 @@ safe_go c (p ∷ point) safe all =
     let first : GoesBy (at (loops_left (suc (length point))) c) (loop_lines (suc (length c.point)) p) (at (loops_left (length point)) wider) = subst (λ k. GoesBy (at (loops_left (suc (length point))) c) (loop_lines (suc (length c.point)) p) (at (ranks_left k (length point)) wider)) safe (loop_goes (length point) c p (All-head IsLoop p point all)) in
     let rest = safe_go wider point safe (All-tail IsLoop p point all) in
     let placed : GoesBy (at (loops_left (length point)) wider) (loops_lines (suc (suc (length c.point))) point []) (with_all c (p ∷ point) []) =
-        subst (λ ps. GoesBy (at (loops_left (length point)) wider) (loops_lines (suc (suc (length c.point))) point []) (at AtGoals (record c { point = ps; ranks = c.ranks ++ [] }))) (sym (assoc_by c.point p point))
-        (subst (λ i. GoesBy (at (loops_left (length point)) wider) (loops_lines (suc i) point []) (with_all wider point [])) (next_index c p) rest) in
+    subst (λ ps. GoesBy (at (loops_left (length point)) wider) (loops_lines (suc (suc (length c.point))) point []) (at AtGoals (record c { point = ps; ranks = c.ranks ++ [] }))) (sym (assoc_by c.point p point))
+    (subst (λ i. GoesBy (at (loops_left (length point)) wider) (loops_lines (suc i) point []) (with_all wider point [])) (next_index c p) rest) in
     then_by (at (loops_left (suc (length point))) c) (at (loops_left (length point)) wider) (with_all c (p ∷ point) []) (loop_lines (suc (length c.point)) p) (loops_lines (suc (suc (length c.point))) point []) first placed
 
 -- and of one of termination
@@ -92,9 +92,9 @@ terminating_go c (p ∷ point) (r ∷ ranks) kind all are =
     let second : GoesBy mid (rank_lines index r) next = subst (λ i. GoesBy mid (rank_lines i r) next) (next_index c p) (ranking_goes (length point) wider c.point p r refl are.0) in
     let rest = terminating_go ranked point ranks kind (All-tail IsLoop p point all) are.1 in
     let placed : GoesBy next (loops_lines (suc index) point ranks) (with_all c (p ∷ point) (r ∷ ranks)) =
-        subst (λ ps. GoesBy next (loops_lines (suc index) point ranks) (at AtGoals (record c { point = ps; ranks = c.ranks ++ r ∷ ranks }))) (sym (assoc_by c.point p point))
-        (subst (λ rs. GoesBy next (loops_lines (suc index) point ranks) (at AtGoals (record c { point = (c.point ++ p ∷ []) ++ point; ranks = rs }))) (sym (assoc_by c.ranks r ranks))
-        (subst (λ i. GoesBy next (loops_lines (suc i) point ranks) (with_all ranked point ranks)) (next_index c p) rest)) in
+    subst (λ ps. GoesBy next (loops_lines (suc index) point ranks) (at AtGoals (record c { point = ps; ranks = c.ranks ++ r ∷ ranks }))) (sym (assoc_by c.point p point))
+    (subst (λ rs. GoesBy next (loops_lines (suc index) point ranks) (at AtGoals (record c { point = (c.point ++ p ∷ []) ++ point; ranks = rs }))) (sym (assoc_by c.ranks r ranks))
+    (subst (λ i. GoesBy next (loops_lines (suc i) point ranks) (with_all ranked point ranks)) (next_index c p) rest)) in
     then_by start next (with_all c (p ∷ point) (r ∷ ranks)) (loop_lines index p ++ rank_lines index r) (loops_lines (suc index) point ranks) (then_by start mid next (loop_lines index p) (rank_lines index r) first second) placed
 
 pub loops_go : (kind : CertKind) (c : Cert) (point : List LoopPoint) (ranks : List (List Form)) → c.kind ≡ kind → All IsLoop point → RanksFit kind point ranks → GoesBy (at (loops_left (length point)) c) (loops_lines (suc (length c.point)) point ranks) (with_all c point ranks)
@@ -116,8 +116,8 @@ goals_go c (g ∷ goals) all =
     let rest = goals_go wider goals (All-tail IsGoal g goals all) in
     let count : length (c.goals ++ g ∷ []) ≡ suc (length c.goals) = omega (arith, length-append c.goals (g ∷ [])) in
     let placed : GoesBy next (goals_lines (suc index) goals) (with_goals c (g ∷ goals)) =
-        subst (λ gs. GoesBy next (goals_lines (suc index) goals) (at AtEnd (record c { goals = gs }))) (sym (assoc_by c.goals g goals))
-        (subst (λ i. GoesBy next (goals_lines (suc i) goals) (with_goals wider goals)) count rest) in
+    subst (λ gs. GoesBy next (goals_lines (suc index) goals) (at AtEnd (record c { goals = gs }))) (sym (assoc_by c.goals g goals))
+    (subst (λ i. GoesBy next (goals_lines (suc i) goals) (with_goals wider goals)) count rest) in
     then_by start next (with_goals c (g ∷ goals)) (goal_lines index g) (goals_lines (suc index) goals) first placed
 
 pub file_goes : (c : Cert) → InGrammar c → GoesBy (at AtFirst nothing) (file_lines c) (at Done c)
@@ -125,12 +125,23 @@ file_goes c fits =
     let n = length c.point in
     let headed : Cert = record nothing { kind = c.kind; overflow = c.overflow; k = c.k } in
     let looped : Cert = record c { goals = [] } in
-    let head : GoesBy (at AtFirst nothing) (head_lines c n) (at (loops_left n) headed) =
-        (at AtKind nothing, (refl, refl),
-        (at AtChecks (record nothing { kind = c.kind }), (c.kind, refl, refl),
-        (at AtCopies (record nothing { kind = c.kind; overflow = c.overflow }), (c.overflow, refl, refl),
-        (at AtLoops headed, (c.k, fits.some_copies, fits.most_copies, refl, refl),
-        (at (loops_left n) headed, (n, fits.loops, refl, refl), refl))))) in
+    let head : GoesBy (at AtFirst nothing) (head_lines c n) (at (loops_left n) headed) = (
+      at AtKind nothing,
+      (refl, refl),
+      (
+        at AtChecks (record nothing { kind = c.kind }),
+        (c.kind, refl, refl),
+        (
+          at AtCopies (record nothing { kind = c.kind; overflow = c.overflow }),
+          (c.overflow, refl, refl),
+          (
+            at AtLoops headed,
+            (c.k, fits.some_copies, fits.most_copies, refl, refl),
+            (at (loops_left n) headed, (n, fits.loops, refl, refl), refl),
+          ),
+        ),
+      ),
+    ) in
     let loops : GoesBy (at (loops_left n) headed) (loops_lines 1 c.point c.ranks) (at AtGoals looped) = loops_go c.kind headed c.point c.ranks refl fits.point fits.ranks in
     let goals : GoesBy (at AtGoals looped) (goals_line (length c.goals) ∷ []) (at (goals_left (length c.goals)) looped) = (at (goals_left (length c.goals)) looped, (length c.goals, fits.goal_count, refl, refl), refl) in
     let each : GoesBy (at (goals_left (length c.goals)) looped) (goals_lines 1 c.goals) (at AtEnd c) = goals_go looped c.goals fits.goals in

@@ -5,7 +5,6 @@ use Rattle.l2_templates.specs.declared.form.Form.{Form}
 use Rattle.l2_templates.specs.declared.form.Row.{Row}
 use Rattle.l2_templates.specs.declared.point.LoopPoint.{LoopPoint}
 use Rattle.l2_templates.specs.declared.point.LoopPoint.TheVariants.{Bottom, Rows}
-use Rattle.l2_templates.specs.Points.{loop_at}
 use Rattle.l2_cert.specs.declared.cert.Cert.{Cert}
 use Rattle.l2_cert.specs.declared.cert.CertKind.{CertKind}
 use Rattle.l2_cert.specs.declared.cert.CertKind.TheVariants.{Safe, Terminating}

@@ -1,14 +1,15 @@
 -- What a reading has read.
-use Rattle.std.specs.Prelude.{◌≡◌, ◌≢◌, ⊤, ℕ, ◌<◌, ◌^◌, List, ◌∷◌, Option, Some, None}
+use Rattle.std.specs.Prelude.{◌≡◌, ◌⊎◌, ℕ, ◌<◌, ◌^◌, List, ◌++◌}
+use Rattle.l2_lines.specs.Lines.{IsLine, ended}
 use Rattle.l2_cert.specs.declared.cert.Cert.{Cert}
 use Rattle.l2_cert.specs.declared.reading.Reading.{Reading}
 use Rattle.l2_cert.specs.declared.reading.Stage.{Stage}
 use Rattle.l2_cert.specs.declared.reading.Stage.TheVariants.{First, Kind, Checks, Copies, Loops, Loop, Row, Ranks, Rank, Goals, Goal, Step, End, Over}
 use Rattle.l2_cert.specs.declared.lines.LoopLine.{LoopLine}
 use Rattle.l2_cert.specs.declared.lines.LoopLine.TheVariants.{Bottom, Rows}
-use Rattle.l2_cert.specs.Words.{Word}
+use Rattle.l2_cert.specs.Words.{Word, words_of}
 use Rattle.l2_cert.specs.Certificate.{bottom_line, rows_line}
-use Rattle.l2_cert.specs.Machine.{Place, State, at, AtFirst, AtKind, AtChecks, AtCopies, AtLoops, AtLoop, AtRow, AtRanks, AtRank, AtGoals, AtGoal, AtStep, AtEnd, Done}
+use Rattle.l2_cert.specs.Machine.{Place, State, Goes, at, AtFirst, AtKind, AtChecks, AtCopies, AtLoops, AtLoop, AtRow, AtRanks, AtRank, AtGoals, AtGoal, AtStep, AtEnd, Done}
 
 abbrev pub place_at : Stage → Reading → Place
 place_at First r = AtFirst
@@ -36,3 +37,11 @@ state_of r = at (place_at r.stage r) (cert_of r)
 abbrev pub TellsLoop : ℕ → List Word → LoopLine → Type 0
 TellsLoop i line Bottom = line ≡ bottom_line i
 TellsLoop i line (Rows rows) = (rows < 2 ^ 32) × (line ≡ rows_line i rows)
+
+-- one line of a text was taken
+abbrev pub ReadsLine : State → State → List ℕ → List ℕ → Type 0
+ReadsLine s t text rest = (line : List ℕ) × IsLine line × (text ≡ ended line ++ rest) × Goes s (words_of line) t
+
+-- the first line of a text has no LF, or isn't taken
+abbrev pub StopsAt : State → List ℕ → Type 0
+StopsAt s text = IsLine text ⊎ ((line rest : List ℕ) × IsLine line × (text ≡ ended line ++ rest) × ((t : State) → ¬ Goes s (words_of line) t))

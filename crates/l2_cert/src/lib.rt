@@ -8,8 +8,10 @@ mod forms;
 mod goals;
 mod lines;
 mod loops;
+mod reader;
 mod reading;
 mod steps;
 mod words;
 
 pub use cert::{Cert, CertError, CertKind};
+pub use reader::read;

@@ -97,7 +97,11 @@ impl<'a> Words<'a> {
             (λ r. left self.entry ≡ text.now ∷ left r) }
     {
         let first = self.first()?;
-        if first.word == text { Some(first.rest) } else { None }
+        if first.word == text {
+            Some(first.rest)
+        } else {
+            None
+        }
     }
 
     /// The number from 0 to `most` that the first word spells.

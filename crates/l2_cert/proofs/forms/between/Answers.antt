@@ -1,7 +1,6 @@
-use Rattle.std.proofs.Common.{rules, ◌≡◌, ◌<◌, ◌^◌, ◌∷◌, [], ap, sym, ◌∙◌, get_or, arith}
+use Rattle.std.proofs.Common.{◌≡◌, ◌<◌, ◌^◌, [], ap, sym, ◌∙◌, get_or, arith}
 use Rattle.std.specs.Fmt.{decimal}
 use Rattle.l2_lines.proofs.Decimals.{decimal_injective_wide}
-use Rattle.l2_cert.specs.Cursor.{left}
 use Rattle.l2_cert.proofs.forms.between.Goals as goal
 
 pub returns-then-number-from : goal.returns-then-number-from

@@ -3,7 +3,7 @@ use Rattle.std.specs.Fmt.{decimal}
 use Rattle.l2_lines.proofs.Decimals.{decimal_injective_wide}
 use Rattle.l2_cert.specs.Cursor.{left}
 use Rattle.l2_cert.specs.Words.{Word}
-use Rattle.l2_cert.specs.Certificate.{IsForm, IsSecond, form_words, second_words, sign_word}
+use Rattle.l2_cert.specs.Certificate.{IsSecond, form_words, second_words, sign_word}
 use Rattle.l2_cert.proofs.forms.form_of.Goals as goal
 
 no_second : (first second : ℕ) (plus : Bool) (rest : List Word) → IsSecond first second plus → second < 2 ^ 32 → second_words second plus ≡ rest → rest ≢ [] → ((plus : Bool) (n : ℕ) (more : List Word) → first + 1 ≤ n → n < 2 ^ 32 → rest ≢ sign_word plus ∷ decimal n ∷ more) → ⊥

@@ -1,6 +1,4 @@
-use Rattle.std.proofs.Common.{◌≡◌, ◌∷◌, [], ◌∙◌, IsTrue, false, true, codes, sym, ap, drop}
-use Rattle.l2_cert.specs.Cursor.{left}
-use Rattle.l2_cert.specs.Certificate.{first_line}
+use Rattle.std.proofs.Common.{◌∷◌, [], ◌∙◌, codes, sym, ap, drop}
 use Rattle.l2_cert.proofs.lines.is_first.Goals as goal
 
 pub returns-in-None : goal.returns-in-None

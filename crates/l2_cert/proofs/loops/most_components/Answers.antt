@@ -1,4 +1,4 @@
-use Rattle.std.proofs.Common.{rules, ◌≡◌, ◌≢◌, ◌≤◌, ◌<◌, ◌^◌, ◌-◌, ℕ, zero, suc, List, [], ◌∷◌, length, refl, sym, ap, subst, ◌∙◌, slice_index_or, arith}
+use Rattle.std.proofs.Common.{◌≡◌, ◌-◌, ℕ, zero, suc, List, [], ◌∷◌, length, refl, sym, subst, ◌∙◌, arith}
 use Rattle.l2_templates.specs.declared.point.LoopPoint.{LoopPoint}
 use Rattle.l2_templates.specs.declared.point.LoopPoint.TheVariants.{Bottom, Rows}
 use Rattle.l2_templates.specs.Points.{loop_at}
@@ -15,9 +15,10 @@ last_at (p ∷ q ∷ point) (suc i) is = let less : length (q ∷ point) ≡ suc
 
 pub returns-in-Bottom : goal.returns-in-Bottom
 returns-in-Bottom c = λ n.
-    let last : last_loop c.args.point.now ≡ Bottom = last_at c.args.point.now (c.len-loops.result - 1) (omega (arith, c.len-loops.ensures, c.if-loops-eq0.false)) ∙ sym c.get.ensures ∙ c.in-Bottom.is in
-    (λ none. (omega (arith, none), subst (λ p. RanksMay p n) (sym last) (omega (arith, none))),
-    λ small may. let none : n ≡ 0 = subst (λ p. RanksMay p n) last may in omega (arith, none))
+    let last : last_loop c.args.point.now ≡ Bottom = last_at c.args.point.now (c.len-loops.result - 1) (omega (arith, c.len-loops.ensures, c.if-loops-eq0.false)) ∙ sym c.get.ensures ∙ c.in-Bottom.is in (
+      λ none. (omega (arith, none), subst (λ p. RanksMay p n) (sym last) (omega (arith, none))),
+      λ small may. let none : n ≡ 0 = subst (λ p. RanksMay p n) last may in omega (arith, none),
+    )
 
 pub returns-in-Rows : goal.returns-in-Rows
 returns-in-Rows c = λ n.

@@ -1,6 +1,5 @@
 use Rattle.std.proofs.Common.{rules, ◌≡◌, ap, sym, ◌∙◌}
 use Rattle.std.specs.Fmt.{decimal}
-use Rattle.l2_cert.specs.Certificate.{IsNumber}
 use Rattle.l2_cert.proofs.Numerals.{number_is_not_zero}
 use Rattle.l2_cert.proofs.steps.number_of.Goals as goal
 

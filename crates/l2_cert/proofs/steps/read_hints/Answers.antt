@@ -1,4 +1,4 @@
-use Rattle.std.proofs.Common.{◌≡◌, ◌++◌, ◌∷◌, [], ◌∙◌, ⊎_elim, true, false, sym, ap, subst, map, refl}
+use Rattle.std.proofs.Common.{◌≡◌, ◌++◌, ◌∷◌, [], ◌∙◌, ⊎_elim, true, false, sym, ap, map, refl}
 use Rattle.std.specs.Fmt.{decimal}
 use Rattle.std.proofs.lemmas.Slice.Eq.{slice_eq-Decides}
 use Rattle.std.proofs.lemmas.Bool.Decides.{Decides-eqb}
@@ -22,8 +22,8 @@ returns-in_default-number_of-clause-bad c = λ failed numbers rest all is.
     let read : left c.args.words ≡ map decimal items ++ word ∷ behind = c.loop-first.invariant.read ∙ ap (λ l. map decimal items ++ l) c.in-Some.ensures in
     ⊎_elim
     (λ over. let same : word ≡ c.as_slice.result.now = over ∙ zero_word ∙ sym c.as_slice.ensures in
-        let equal = (slice_eq-Decides Decides-eqb word c.as_slice.result.now _ refl).1 same in
-        let clash : false ≡ true = c.if-eq.ensures ∙ equal in cc)
+    let equal = (slice_eq-Decides Decides-eqb word c.as_slice.result.now _ refl).1 same in
+    let clash : false ≡ true = c.if-eq.ensures ∙ equal in cc)
     (λ (z, fits, spelt). c.in_default-number_of.ensures z fits spelt)
     (next_item IsNumber decimal (decimal 0) number_is_not_zero items numbers word behind rest c.loop-first.invariant.all all (sym read ∙ is))
 

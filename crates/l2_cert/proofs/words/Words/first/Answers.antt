@@ -1,5 +1,5 @@
-use Rattle.std.proofs.Common.{rules, ◌≡◌, ◌∷◌, ◌++◌, [], ap, ◌∙◌, cond, true, false}
-use Rattle.l2_cert.specs.Words.{HasNoSpace, words_of}
+use Rattle.std.proofs.Common.{rules, ◌≡◌, [], ap, ◌∙◌, cond, true}
+use Rattle.l2_cert.specs.Words.{words_of}
 use Rattle.l2_cert.proofs.Spaces.{words_of-one, words_of-spaced}
 use Rattle.l2_cert.proofs.words.Words.first.Goals as goal
 

@@ -1,4 +1,4 @@
-use Rattle.std.proofs.Common.{refl, rules, ◌≡◌, ◌≢◌, ◌↔◌, [], List, IsTrue, Bool, true, false, not, cond}
+use Rattle.std.proofs.Common.{refl, ◌≡◌, [], IsTrue, Bool, true, false, not, cond}
 use Rattle.l2_cert.specs.Words.{Word, words_of}
 use Rattle.l2_cert.proofs.Spaces.{some_word}
 use Rattle.l2_cert.proofs.words.Words.over.Goals as goal
