@@ -10,6 +10,7 @@ use thiserror::Error;
 
 /// Code with its sets whose loops are unwound: each turn stands in `copies` copies, and each loop has so many rows. It is seen as
 /// the code in which a loop holds its copies; a copy is looked at as often as it stands there, and isn't kept more than once.
+#[derive(Clone, Copy)]
 pub struct Flat<'a> {
     pub code: &'a Code,
     pub sets: &'a Sets,
