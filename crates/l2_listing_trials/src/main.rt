@@ -20,7 +20,12 @@ use std::io;
 fn sets(alloc: Global) -> Result<Sets, AllocError>
     ensures { IfOk result (λ s. AllRise s.sets) }
 {
-    let members = vec![in alloc; Member::Null, Member::Object(1), Member::Object(2), Member::Object(3)]?;
+    let members = vec![in alloc;
+        Member::Null,
+        Member::Object(1),
+        Member::Object(2),
+        Member::Object(3),
+    ]?;
     let set = PointsTo {
         members: List::new(members),
     };
