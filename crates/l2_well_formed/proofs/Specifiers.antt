@@ -1,5 +1,5 @@
 -- What the state behind specifiers says of them.
-use Rattle.std.proofs.Common.{◌≡◌, ◌≤◌, ◌⊎◌, inl, inr, refl, ap, sym, ◌∙◌, subst, ℕ, Bool, true, false, cond, not, ◌&&◌, leb, List, Option, None, Some, arith}
+use Rattle.std.proofs.Common.{◌≡◌, ◌≤◌, ◌⊎◌, inl, inr, refl, ap, sym, ◌∙◌, subst, ℕ, Bool, true, false, cond, not, ◌&&◌, leb, List, Option, None, Some, is_none, arith}
 use Rattle.l2_syntax.specs.declared.place.Place.{Place}
 use Rattle.l2_syntax.specs.declared.token.Mark.{Mark}
 use Rattle.l2_syntax.specs.declared.token.Mark.TheVariants as mark
@@ -20,6 +20,7 @@ use Rattle.l2_grammar.specs.declared.states.State.{State}
 use Rattle.l2_grammar.specs.declared.states.State.TheVariants as st
 use Rattle.l2_grammar.specs.Marks.{is}
 use Rattle.l2_grammar.specs.Networks.{on, store, add_sign, add_core, add_short, add_long, add_word, on_token, on_word, on_end, begun_as, begun_item_in, continued, wants_left, closed as closed_name}
+use Rattle.l2_grammar.specs.Nesting.{is_nothing}
 use Rattle.l2_grammar.specs.Trees.{Tree, begin, sort as sort_of, state as state_of, Fits}
 use Rattle.l2_tree.specs.declared.operators.SpecifierWord.{SpecifierWord}
 use Rattle.l2_tree.specs.declared.operators.SpecifierWord.TheVariants as word
@@ -27,7 +28,8 @@ use Rattle.l2_tree.specs.declared.expression.Tag.{Tag}
 use Rattle.l2_tree.specs.Trees.{SpecifierTree, Word, TypeName, Struct, StructBody, Enum, EnumBody, SpecifierTrees, first_specifier, and_specifier}
 use Rattle.l2_tree.specs.Build.{some_or}
 use Rattle.l2_tree.specs.Spelling.{word_mark, mark_at, specifier_onto, specifiers_onto}
-use Rattle.l2_tree_laws.specs.Specifiers.{Tally, nothing, tally, names_type, Base, void, tagged, other, other_of}
+use Rattle.l2_tree_laws.specs.Specifiers.{Tally, nothing, tally, names_type, is_zero, Base, void, tagged, other, other_of}
+use Rattle.l2_tree_laws.proofs.Types.{other_found}
 use Rattle.l2_well_formed.proofs.Counts.{Said, stored_words, type_tally, possible, names_one, Ready, specifiers_said, fresh_ready}
 use Rattle.l2_well_formed.specs.Expressions.{is_void_base}
 use Rattle.l2_well_formed.specs.WellFormed.{Tags}
@@ -64,10 +66,6 @@ told r xs w y i f e = go (subst (λ q. Said q (tally xs)) e (specifiers_said xs 
 abbrev makes : (Named → Bool) → State → Bool
 makes p (st.Typed w y) = p y
 makes p q = true
-
-abbrev is_nothing : Named → Bool
-is_nothing named.Nothing = true
-is_nothing y = false
 
 abbrev is_other : Named → Bool
 is_other named.Other = true
@@ -233,6 +231,7 @@ plain_before s v w w' y y' e f = absurd (cc)
 -- the state behind a type says so of the type that a specifier names by itself
 abbrev pub Kind : Named → Option Base → Type 0
 Kind named.Nothing o = is_void_base o ≡ true
+Kind named.Other o = is_void_base o ≡ false
 Kind named.StructTag o = (x : SpecifierTree) × (o ≡ Some (tagged x))
 Kind named.EnumTag o = (x : SpecifierTree) × (o ≡ Some (tagged x))
 Kind named.Tagged o = (x : SpecifierTree) × (o ≡ Some (tagged x))
@@ -246,9 +245,9 @@ by_nothing : (y : Named) → is_nothing y ≡ true → Kind y (Some void)
 by_nothing named.Nothing e = refl
 by_nothing y e = absurd (cc)
 
-by_other : (y : Named) (o : Option Base) → is_other y ≡ true → Kind y o
-by_other named.Other o e = tt
-by_other y o e = absurd (cc)
+by_other : (y : Named) (o : Option Base) → is_void_base o ≡ false → is_other y ≡ true → Kind y o
+by_other named.Other o f e = f
+by_other y o f e = absurd (cc)
 
 by_number : (y : Named) (o : Option Base) → is_number y ≡ true → Kind y o
 by_number (named.Number b l c) o e = tt
@@ -271,7 +270,7 @@ plain_kind s q v o f i w y e = absurd (no_false (made nothing_is (on_token s q (
 word_kind : (s : Sort) (q : State) (v : SpecifierWord) (o : Option Base) (p : Place) → ((w : Storage) (y : Named) → q ≡ st.Typed w y → Kind y o) → (w : Storage) (y : Named) → on_token s q (kind.Mark (word_mark v)) ≡ st.Typed w y →
     Kind y (some_or (other (Word v p)) (λ b. Some b) o)
 word_kind s q word.Void o p i w y e = by_nothing y (made is_nothing (on_token s q (kind.Mark mark.Void)) w y (void_makes s q) e)
-word_kind s q word.Bool o p i w y e = by_other y _ (made is_other (on_token s q (kind.Mark mark.Bool)) w y (bool_makes s q) e)
+word_kind s q word.Bool o p i w y e = by_other y _ refl (made is_other (on_token s q (kind.Mark mark.Bool)) w y (bool_makes s q) e)
 word_kind s q word.Const o p i w y e = plain_kind s q word.Const o refl i w y e
 word_kind s q word.Static o p i w y e = plain_kind s q word.Static o refl i w y e
 word_kind s q word.Extern o p i w y e = plain_kind s q word.Extern o refl i w y e
@@ -279,7 +278,7 @@ word_kind s q v o p i w y e = by_number y _ (made is_number (on_token s q (kind.
 
 specifier_kind : (r : Tree) (x : SpecifierTree) (o : Option Base) → ((w : Storage) (y : Named) → state_of r ≡ st.Typed w y → Kind y o) → (w : Storage) (y : Named) → state_of (specifier_onto r x) ≡ st.Typed w y → Kind y (some_or (other x) (λ b. Some b) o)
 specifier_kind r (Word v p) o i w y e = word_kind (sort_of r) (state_of r) v o p i w y e
-specifier_kind r (TypeName n p) o i w y e = by_other y _ (made is_other _ w y (name_makes (sort_of r) (state_of r) n) e)
+specifier_kind r (TypeName n p) o i w y e = by_other y _ refl (made is_other _ w y (name_makes (sort_of r) (state_of r) n) e)
 specifier_kind r (Struct p t) o i w y e = by_tag y _ (made is_tag _ w y (tag_makes (sort_of r) (state_of (mark_at r mark.Struct p)) t.name) e)
 specifier_kind r (StructBody p t q ds) o i w y e = by_tag y _ (made is_tag _ w y (brace_makes _ _) e)
 specifier_kind r (Enum p t) o i w y e = by_tag y _ (made is_tag _ w y (tag_makes (sort_of r) (state_of (mark_at r mark.Enum p)) t.name) e)
@@ -296,3 +295,22 @@ first_kind r x f w y e = go (other x) (specifier_kind r x None (λ v z g. absurd
 pub kinds : (r : Tree) (xs : SpecifierTrees) → is_typed (state_of r) ≡ false → (w : Storage) (y : Named) → state_of (specifiers_onto r xs) ≡ st.Typed w y → Kind y (other_of xs)
 kinds r (first_specifier x) f w y e = first_kind r x f w y e
 kinds r (and_specifier xs x) f w y e = specifier_kind (specifiers_onto r xs) x (other_of xs) (λ v z g. kinds r xs f v z g) w y e
+
+-- `void`, where no other type is named
+pub void_told : (r : Tree) (xs : SpecifierTrees) (w : Storage) (y : Named) → Ready r nothing → is_typed (state_of r) ≡ false → Fits (specifiers_onto r xs) → state_of (specifiers_onto r xs) ≡ st.Typed w y → is_nothing y ≡ is_void_base (other_of xs)
+void_told r xs w y i d f e = go y (kinds r xs d w y e) (subst (λ q. Said q (tally xs)) e (specifiers_said xs r i f))
+  where
+    none_void : (o : Option Base) → is_none o ≡ true → false ≡ is_void_base o
+    none_void None g = refl
+    none_void (Some b) g = absurd (cc)
+
+    tag_void : (o : Option Base) (x : SpecifierTree) → o ≡ Some (tagged x) → false ≡ is_void_base o
+    tag_void o x g = sym (ap is_void_base g)
+
+    go : (y : Named) → Kind y (other_of xs) → (tally xs ≡ type_tally w y) × (possible y ≡ true) → is_nothing y ≡ is_void_base (other_of xs)
+    go (named.Number b l c) k x = none_void (other_of xs) (other_found xs ∙ ap (λ z. is_zero z.others) x.0)
+    go named.Nothing k x = sym k
+    go named.Other k x = sym k
+    go named.StructTag k x = tag_void (other_of xs) k.0 k.1
+    go named.EnumTag k x = tag_void (other_of xs) k.0 k.1
+    go named.Tagged k x = tag_void (other_of xs) k.0 k.1

@@ -2,7 +2,10 @@ use Rattle.l2_well_formed.specs.WellFormed.{WellFormedLaw}
 use Rattle.l2_well_formed.proofs.Steps.{operand}
 use Rattle.l2_well_formed.proofs.Tokens.{binary_follows}
 use Rattle.l2_well_formed.proofs.Specifiers.{told}
-use Rattle.l2_well_formed.proofs.Specifiers.{kinds}
+use Rattle.l2_well_formed.proofs.Specifiers.{void_told}
+use Rattle.l2_well_formed.proofs.Shapes.{shape_defines}
+use Rattle.l2_well_formed.proofs.Declarators.{declarator}
+use Rattle.l2_well_formed.proofs.Parameters.{type_name, first_parameter, next_parameter, close_state}
 
 pub well_formed : WellFormedLaw
 well_formed = ?
