@@ -5,4 +5,7 @@ pub mod Specifiers
 pub mod Shapes
 pub mod Declarators
 pub mod Parameters
+pub mod Starts
+pub mod Declarations
+pub mod Formed
 pub mod Units

@@ -99,10 +99,15 @@ value_of s (st.Have l) n f h i = (least_of s l n i h, refl)
 value_of s st.Word n f h i = absurd (no_word s f h)
 value_of s q n f h i = absurd i
 
+pub put : (a : Tree) (q : State) (e : ExprTree) → Done e (run_expr (opens (sort_of a) (state_of a)) e) → state_of a ≡ q → operands (opens (sort_of a) q) ≡ true → Fits (child a (run_expr (opens (sort_of a) (state_of a)) e)) →
+    Put q e a (run_expr (opens (sort_of a) (state_of a)) e)
+put a q e i j f g =
+    let z = opens (sort_of a) (state_of a) in let r = run_expr z e in let k : operands z ≡ true = ap (λ y. operands (opens (sort_of a) y)) j ∙ f in
+    let v = value_of (sort_of r) (state_of r) (level e) (ap operands (sym g.2) ∙ k) (last_stands r (level e) g.1 i.whole) i.whole in
+    record { least = subst (λ y. least y ≤ level e) (sym g.2 ∙ ap (opens (sort_of a)) j) v.0; formed = i.formed; state = ap (λ y. on_child (sort_of a) y (outcome_of (state_of r))) j ∙ ap (on_child (sort_of a) q) v.1 }
+
 pub operand : (a : Tree) (q : State) (e : ExprTree) → ((z : Sort) → values z ≡ true → Fits (run_expr z e) → Done e (run_expr z e)) → state_of a ≡ q → operands (opens (sort_of a) q) ≡ true →
     Fits (child a (run_expr (opens (sort_of a) (state_of a)) e)) → Put q e a (run_expr (opens (sort_of a) (state_of a)) e)
 operand a q e h j f g =
-    let z = opens (sort_of a) (state_of a) in let r = run_expr z e in let k : operands z ≡ true = ap (λ y. operands (opens (sort_of a) y)) j ∙ f in
-    let i = h z (both (values z) (not (is_item z)) k).0 g.1 in
-    let v = value_of (sort_of r) (state_of r) (level e) (ap operands (sym g.2) ∙ k) (last_stands r (level e) g.1 i.whole) i.whole in
-    record { least = subst (λ y. least y ≤ level e) (sym g.2 ∙ ap (opens (sort_of a)) j) v.0; formed = i.formed; state = ap (λ y. on_child (sort_of a) y (outcome_of (state_of r))) j ∙ ap (on_child (sort_of a) q) v.1 }
+    let z = opens (sort_of a) (state_of a) in
+    put a q e (h z (both (values z) (not (is_item z)) (ap (λ y. operands (opens (sort_of a) y)) j ∙ f)).0 g.1) j f g
