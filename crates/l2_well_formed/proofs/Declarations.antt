@@ -184,7 +184,7 @@ declared_outcome : (w : Storage) (h : Shape) (b : Bool) → outcome_of (st.Decla
 unfolding outcome_of
 declared_outcome w h b = refl
 
-no_storage : (w : Storage) → w ≡ storage.Automatic → stored_words w ≤ 0
+pub no_storage : (w : Storage) → w ≡ storage.Automatic → stored_words w ≤ 0
 no_storage w e = subst (λ z. stored_words z ≤ 0) (sym e) (omega arith)
 
 pub bare : (z : Sort) (xs : SpecifierTrees) → FormedSpecifiers xs → Fits (specifiers_onto (begin z) xs) → ParameterDone (Bare xs) (specifiers_onto (begin z) xs)
@@ -220,7 +220,7 @@ with_declarator z xs d g k f = inr (record { words = t.words; made = ap outcome_
     y : DeclaratorPut (st.Typed t.words t.name) d a (run_declarator (opens (sort_of a) (state_of a)) d)
     y = declarator a (st.Typed t.words t.name) d k t.state refl refl f
 
-    n : (names (nesting.naming (sort_of a)) (shape_of d) ≡ true) × _
+    n : (names (nesting.naming (sort_of a)) (shape_of d) ≡ true) × (cond (names (nesting.naming (sort_of a)) (shape_of d)) (st.Declared t.words (shape_of d) (defines t.words (shape_of d))) st.None ≡ st.Declared t.words (shape_of d) (defines t.words (shape_of d)))
     n = named_state (sort_of a) (names (nesting.naming (sort_of a)) (shape_of d)) (st.Declared t.words (shape_of d) (defines t.words (shape_of d))) (subst (λ q. stands (sort_of a) q ≡ true) y.state f.3)
 
     e : state_of (run_parameter z (Declared xs d)) ≡ st.Declared t.words (shape_of d) (defines t.words (shape_of d))
@@ -228,3 +228,31 @@ with_declarator z xs d g k f = inr (record { words = t.words; made = ap outcome_
 
     x : (specifies (sort_of a) t.words ≡ true) × (names (nesting.naming (sort_of a)) (shape_of d) ≡ true)
     x = both (specifies (sort_of a) t.words) (names (nesting.naming (sort_of a)) (shape_of d)) (declared_specifies (sort_of a) t.words (shape_of d) (defines t.words (shape_of d)) (subst (λ q. stands (sort_of a) q ≡ true) e f.3))
+
+-- ---- the declarators of a declaration
+
+-- behind the declarators
+abbrev pub Ended : DeclaredTrees → State → Storage → Named → Type 0
+Ended no_declarators q w y = q ≡ st.Typed w y
+Ended ds q w y = ((h : Shape) × (b : Bool) × (q ≡ st.Declared w h b)) ⊎ (q ≡ st.InitClose w)
+
+pub comma_next : (s : Sort) (ds : DeclaredTrees) (d : DeclaredTree) (q : State) (w : Storage) (y : Named) → Ended (and_declarator ds d) q w y → on_token s q (kind.Mark mark.Comma) ≡ st.NextDeclarator w
+unfolding on_token is
+comma_next s ds d q w y (inl x) = ap (λ z. on_token s z (kind.Mark mark.Comma)) x.2
+comma_next s ds d q w y (inr x) = ap (λ z. on_token s z (kind.Mark mark.Comma)) x
+
+pub equal_next : (r : Tree) (p : Place) (w : Storage) (h : Shape) (b : Bool) → state_of r ≡ st.Declared w h b → state_of (mark_at r mark.Equal p) ≡ st.InitValue w
+unfolding on_token is
+equal_next r p w h b e = ap (λ q. on_token (sort_of r) q (kind.Mark mark.Equal)) e
+
+init_initialises : (s : Sort) (w : Storage) → stands s (st.InitValue w) ≡ true → initialises s w ≡ true
+unfolding stands
+init_initialises s w h = h
+
+-- no initialiser stands where none may
+pub no_init : {A : Type 0} (s : Sort) (q : State) (w : Storage) → stands s q ≡ true → q ≡ st.InitValue w → initialises s w ≡ false → A
+no_init s q w h e f = absurd (go (initialises s w) (init_initialises s w (subst (λ z. stands s z ≡ true) e h)) f)
+  where
+    go : (b : Bool) → b ≡ true → b ≡ false → ⊥
+    go true x y = absurd (cc)
+    go false x y = absurd (cc)
