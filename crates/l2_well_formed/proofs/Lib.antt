@@ -8,4 +8,6 @@ pub mod Parameters
 pub mod Starts
 pub mod Declarations
 pub mod Formed
+pub mod Items
+pub mod Statements
 pub mod Units

@@ -8,6 +8,7 @@ use Rattle.l2_well_formed.proofs.Declarators.{declarator}
 use Rattle.l2_well_formed.proofs.Starts.{name_whole, number_whole, text_whole, sizeof_state, unary_state, update_state, follow, paren_operands, cast_right, struct_base, enum_base}
 use Rattle.l2_well_formed.proofs.Formed.{expr_formed}
 use Rattle.l2_well_formed.proofs.Declarations.{bare, with_declarator, typing, typing_specifies, typing_names, declared, initialiser}
+use Rattle.l2_well_formed.proofs.Statements.{stmt_formed, items_formed}
 use Rattle.l2_well_formed.proofs.Parameters.{type_name, first_parameter, next_parameter, close_state}
 
 pub well_formed : WellFormedLaw
