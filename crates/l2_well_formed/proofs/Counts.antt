@@ -1,5 +1,5 @@
 -- The state behind specifiers says which words they are.
-use Rattle.std.proofs.Common.{◌≡◌, ◌⊎◌, inl, inr, refl, ◌∙◌, ap, sym, subst, ℕ, is_none, Bool, true, false, cond, leb, ◌&&◌, ◌||◌, Option, None, Some}
+use Rattle.std.proofs.Common.{◌≡◌, ◌⊎◌, inl, inr, refl, ◌∙◌, ap, sym, subst, ℕ, Bool, true, false, cond, leb, ◌&&◌, ◌||◌, None, Some}
 use Rattle.l2_syntax.specs.declared.place.Place.{Place}
 use Rattle.l2_syntax.specs.declared.token.Mark.{Mark}
 use Rattle.l2_syntax.specs.declared.token.Mark.TheVariants as mark
@@ -24,15 +24,15 @@ use Rattle.l2_grammar.specs.declared.states.Outcome.TheVariants as outcome
 use Rattle.l2_grammar.specs.Marks.{is}
 use Rattle.l2_grammar.specs.Networks.{on_token, specifier, after_type, begun, begun_item, begun_item_in, begun_external, begun_declarator, begun_enclosed, on_end, begun_as}
 use Rattle.l2_grammar.specs.Nesting.{stands, on_child, opens, behind_declaration, behind_value, outcome as outcome_of}
-use Rattle.l2_grammar.specs.Trees.{Tree, begin, child, sort as sort_of, state as state_of, Fits}
+use Rattle.l2_grammar.specs.Trees.{Tree, begin, sort as sort_of, state as state_of, Fits}
 use Rattle.l2_grammar.proofs.Tokens.{none_stands}
 use Rattle.l2_grammar.proofs.Bools.{no}
 use Rattle.l2_tree.specs.declared.operators.SpecifierWord.{SpecifierWord}
 use Rattle.l2_tree.specs.declared.operators.SpecifierWord.TheVariants as word
-use Rattle.l2_tree.specs.Trees.{SpecifierTree, Word, TypeName, Struct, StructBody, Enum, EnumBody, SpecifierTrees, first_specifier, and_specifier, DeclarationTrees, no_declarations, and_declaration, EnumeratorTree, Plain, Valued, EnumeratorTrees, first_enumerator, and_enumerator, DeclaredTrees, no_declarators, and_declarator, Uninitialised, Initialised, Declaration}
-use Rattle.l2_tree.specs.Spelling.{nowhere, behind, run_expr, declaration_onto, word_mark, tag_onto, mark_at, closed, comma_if, members_onto, enumerator_onto, enumerators_onto, specifier_onto, specifiers_onto, declarators_onto, run_declaration}
-use Rattle.l2_tree.specs.Build.{some_or, is_specifier_mark, is_specifier}
-use Rattle.l2_tree_laws.specs.Specifiers.{Tally, nothing, with_word, with_specifier, tally, is_other, is_number, names_type, is_zero, Base, other, other_of, storage_word, storage_of}
+use Rattle.l2_tree.specs.Trees.{SpecifierTree, Word, TypeName, Struct, StructBody, Enum, EnumBody, SpecifierTrees, first_specifier, and_specifier, DeclarationTrees, no_declarations, and_declaration, EnumeratorTree, Plain, Valued, EnumeratorTrees, first_enumerator, and_enumerator}
+use Rattle.l2_tree.specs.Spelling.{nowhere, behind, run_expr, declaration_onto, word_mark, tag_onto, mark_at, closed, comma_if, members_onto, enumerator_onto, enumerators_onto, specifier_onto, specifiers_onto}
+use Rattle.l2_tree.specs.Build.{is_specifier_mark, is_specifier}
+use Rattle.l2_tree_laws.specs.Specifiers.{Tally, nothing, with_word, with_specifier, tally, is_other, is_number, names_type}
 
 pub no_none : (s : Sort) → stands s st.None ≡ true → ⊥
 no_none s h = no h (none_stands s)

@@ -1,5 +1,5 @@
 -- The states of declarations, of their declarators and of initialisers.
-use Rattle.std.proofs.Common.{◌≡◌, ◌≤◌, ◌⊎◌, inl, inr, refl, ap, sym, ◌∙◌, subst, ℕ, Bool, true, false, cond, not, ◌&&◌, ◌||◌, Option, None, Some, arith}
+use Rattle.std.proofs.Common.{◌≡◌, ◌≤◌, ◌⊎◌, inl, inr, refl, ap, sym, ◌∙◌, subst, ℕ, Bool, true, false, cond, ◌&&◌, None, Some, arith}
 use Rattle.l2_syntax.specs.declared.place.Place.{Place}
 use Rattle.l2_syntax.specs.declared.token.Mark.TheVariants as mark
 use Rattle.l2_syntax.specs.declared.token.TokenKind.TheVariants as kind
@@ -15,22 +15,22 @@ use Rattle.l2_grammar.specs.declared.states.State.TheVariants as st
 use Rattle.l2_grammar.specs.declared.states.Outcome.{Outcome}
 use Rattle.l2_grammar.specs.declared.states.Outcome.TheVariants as outcome
 use Rattle.l2_grammar.specs.Marks.{is}
-use Rattle.l2_grammar.specs.Networks.{on, on_token}
+use Rattle.l2_grammar.specs.Networks.{on_token}
 use Rattle.l2_grammar.specs.Nesting as nesting
 use Rattle.l2_grammar.specs.Nesting.{is_declarator, is_nothing, specifies, initialises, names, defines, stands, on_child, opens, outcome as outcome_of}
 use Rattle.l2_grammar.specs.Trees.{Tree, begin, token, child, sort as sort_of, state as state_of, Fits}
 use Rattle.l2_grammar.proofs.Bools.{both}
-use Rattle.l2_tree.specs.Trees.{SpecifierTree, Word, TypeName, Struct, StructBody, Enum, EnumBody, SpecifierTrees, first_specifier, and_specifier, EnumeratorTree, Plain, Valued, EnumeratorTrees, first_enumerator, and_enumerator, DeclarationTrees, no_declarations, and_declaration, ParameterTree, Bare, Declared, DeclaratorTree, InitialiserTree, Expression, Braced, InitialiserTrees, DeclaredTree, Uninitialised, Initialised, DeclaredTrees, no_declarators, and_declarator}
-use Rattle.l2_tree.specs.Spelling.{nowhere, mark_at, closed, comma_if, tag_onto, run_expr, specifier_onto, specifiers_onto, members_onto, enumerator_onto, enumerators_onto, run_declarator, run_initialiser, run_parameter, declarators_onto}
-use Rattle.l2_tree_laws.specs.Specifiers.{Tally, nothing, tally, other_of}
-use Rattle.l2_well_formed.specs.Expressions.{level, has_name, is_named, no_initialiser}
+use Rattle.l2_tree.specs.Trees.{SpecifierTree, Word, TypeName, Struct, StructBody, Enum, EnumBody, SpecifierTrees, first_specifier, and_specifier, EnumeratorTree, Plain, Valued, EnumeratorTrees, first_enumerator, and_enumerator, DeclarationTrees, no_declarations, and_declaration, Bare, Declared, DeclaratorTree, InitialiserTree, Expression, Braced, InitialiserTrees, DeclaredTree, Uninitialised, Initialised, DeclaredTrees, no_declarators, and_declarator}
+use Rattle.l2_tree.specs.Spelling.{mark_at, closed, comma_if, tag_onto, specifier_onto, specifiers_onto, members_onto, enumerator_onto, enumerators_onto, run_declarator, run_initialiser, run_parameter, declarators_onto}
+use Rattle.l2_tree_laws.specs.Specifiers.{Tally, nothing, tally}
+use Rattle.l2_well_formed.specs.Expressions.{level, has_name}
 use Rattle.l2_well_formed.specs.WellFormed.{NamesType, FormedSpecifiers, FormedDeclarator, FormedInitialiser, FormedInitialisers}
-use Rattle.l2_well_formed.proofs.Steps.{no_none, then_state, Done, operands, put}
+use Rattle.l2_well_formed.proofs.Steps.{no_none, Done, operands, put}
 use Rattle.l2_well_formed.proofs.Counts.{Said, Ready, specifiers_said, fresh_ready, stored_words}
 use Rattle.l2_well_formed.proofs.Specifiers.{told, void_told}
 use Rattle.l2_well_formed.proofs.Shapes.{shape_of, shape_named}
 use Rattle.l2_well_formed.proofs.Declarators.{Declares, DeclaratorPut, declarator, named_state}
-use Rattle.l2_well_formed.proofs.Parameters.{ParameterIs, ParameterDone}
+use Rattle.l2_well_formed.proofs.Parameters.{ParameterDone}
 
 -- ---- sorts
 
@@ -197,8 +197,13 @@ bare z xs g f = go (state_of r) refl (specifiers_said xs (begin z) (fresh_ready 
     go (st.BeforeType w) e i = inl (ap outcome_of e ∙ before_outcome w)
     go (st.Typed w y) e i =
         let t : Typing (begin z) xs = record { words = w; name = y; state = e; fits = f } in
-        inr (record { words = w; made = ap outcome_of e ∙ bare_outcome w y ∙ ap (outcome.Specified false) (void_told (begin z) xs w y (fresh_ready z) refl f e); allowed = subst (λ s. specifies s w ≡ true) (sym (specifiers_sort (begin z) xs)) (typing_specifies (begin z) xs t);
-          names_in = tt; formed = λ h. (typing_names (begin z) xs 0 (fresh_ready z) t (no_storage w h), g) })
+        inr (record {
+          words = w;
+          made = ap outcome_of e ∙ bare_outcome w y ∙ ap (outcome.Specified false) (void_told (begin z) xs w y (fresh_ready z) refl f e);
+          allowed = subst (λ s. specifies s w ≡ true) (sym (specifiers_sort (begin z) xs)) (typing_specifies (begin z) xs t);
+          names_in = tt;
+          formed = λ h. (typing_names (begin z) xs 0 (fresh_ready z) t (no_storage w h), g);
+        })
     go q e i = absurd i
 
 declared_specifies : (s : Sort) (w : Storage) (h : Shape) (b : Bool) → stands s (st.Declared w h b) ≡ true → (specifies s w && names (nesting.naming s) h) ≡ true
@@ -208,8 +213,13 @@ declared_specifies s w h b e = e
 pub with_declarator : (z : Sort) (xs : SpecifierTrees) (d : DeclaratorTree) → FormedSpecifiers xs → ((z : Sort) → is_declarator z ≡ true → Fits (run_declarator z d) → Declares d (run_declarator z d)) →
     Fits (run_parameter z (Declared xs d)) → ParameterDone (Declared xs d) (run_parameter z (Declared xs d))
 unfolding on_child opens
-with_declarator z xs d g k f = inr (record { words = t.words; made = ap outcome_of e ∙ declared_outcome t.words (shape_of d) (defines t.words (shape_of d)) ∙ ap (λ b. outcome.Specified b false) (shape_named d);
-    allowed = x.0; names_in = x.1; formed = λ h. (typing_names (begin z) xs 0 (fresh_ready z) t (no_storage t.words h), g, y.formed) })
+with_declarator z xs d g k f = inr (record {
+  words = t.words;
+  made = ap outcome_of e ∙ declared_outcome t.words (shape_of d) (defines t.words (shape_of d)) ∙ ap (λ b. outcome.Specified b false) (shape_named d);
+  allowed = x.0;
+  names_in = x.1;
+  formed = λ h. (typing_names (begin z) xs 0 (fresh_ready z) t (no_storage t.words h), g, y.formed);
+})
   where
     a : Tree
     a = specifiers_onto (begin z) xs

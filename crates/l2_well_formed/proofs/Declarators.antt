@@ -1,8 +1,6 @@
 -- The states of a declarator.
-use Rattle.std.proofs.Common.{◌≡◌, ◌⊎◌, inl, inr, refl, ap, sym, ◌∙◌, subst, ℕ, Bool, true, false, cond, ◌&&◌, ◌||◌, List, [], ◌∷◌, Option, None, Some}
-use Rattle.l2_syntax.specs.declared.place.Place.{Place}
+use Rattle.std.proofs.Common.{◌≡◌, ◌⊎◌, inl, inr, refl, ap, sym, ◌∙◌, subst, ℕ, Bool, true, false, cond, ◌||◌, List, [], ◌∷◌}
 use Rattle.l2_syntax.specs.declared.token.Mark.TheVariants as mark
-use Rattle.l2_syntax.specs.declared.token.TokenKind.{TokenKind}
 use Rattle.l2_syntax.specs.declared.token.TokenKind.TheVariants as kind
 use Rattle.l2_grammar.specs.declared.states.Sort.{Sort}
 use Rattle.l2_grammar.specs.declared.states.Sort.TheVariants as sort
@@ -12,12 +10,11 @@ use Rattle.l2_grammar.specs.declared.states.Shape.{Shape}
 use Rattle.l2_grammar.specs.declared.states.Shape.TheVariants as shape
 use Rattle.l2_grammar.specs.declared.states.State.{State}
 use Rattle.l2_grammar.specs.declared.states.State.TheVariants as st
-use Rattle.l2_grammar.specs.declared.states.Outcome.{Outcome}
 use Rattle.l2_grammar.specs.declared.states.Outcome.TheVariants as outcome
 use Rattle.l2_grammar.specs.Marks.{is}
-use Rattle.l2_grammar.specs.Networks.{on, on_token, applied, indexed, starred}
-use Rattle.l2_grammar.specs.Nesting.{is_declarator, names, own_naming, grouped, stands, on_child, opens, outcome as outcome_of}
-use Rattle.l2_grammar.specs.Trees.{Tree, begin, token, child, sort as sort_of, state as state_of, Fits}
+use Rattle.l2_grammar.specs.Networks.{on_token, starred}
+use Rattle.l2_grammar.specs.Nesting.{is_declarator, grouped, stands, on_child, opens, outcome as outcome_of}
+use Rattle.l2_grammar.specs.Trees.{Tree, child, sort as sort_of, state as state_of, Fits}
 use Rattle.l2_tree.specs.declared.expression.Pointer.{Pointer}
 use Rattle.l2_tree.specs.declared.expression.Pointer.TheVariants as pointer
 use Rattle.l2_tree.specs.Trees.{DeclaratorTree, Declarator, CoreTree, Absent, Named, Group, SuffixTree, Array, ArrayOf, Parameters, SuffixTrees, no_suffixes, and_suffix, ParameterTrees, no_parameters, and_parameter}
@@ -25,7 +22,7 @@ use Rattle.l2_tree.specs.Spelling.{mark_at, pointers_onto, core_onto, parameters
 use Rattle.l2_well_formed.specs.Expressions.{is_empty}
 use Rattle.l2_well_formed.specs.WellFormed.{FormedDeclarator}
 use Rattle.l2_well_formed.proofs.Steps.{no_none, then_state}
-use Rattle.l2_well_formed.proofs.Shapes.{has_pointers, shape_of, core_shape}
+use Rattle.l2_well_formed.proofs.Shapes.{has_pointers, shape_of}
 
 -- behind pointers alone, and whether there are any
 abbrev pub Starring : State → Bool → Type 0

@@ -1,40 +1,32 @@
 -- What stands in a unit is formed: expressions, types, declarators and initialisers.
-use Rattle.std.proofs.Common.{◌≡◌, ◌≤◌, ◌<◌, ◌⊎◌, inl, inr, refl, ap, sym, ◌∙◌, subst, ℕ, suc, Bool, true, false, cond, not, ◌&&◌, ◌||◌, List, [], ◌∷◌, Option, None, Some, arith}
-use Rattle.l2_syntax.specs.declared.place.Place.{Place}
+use Rattle.std.proofs.Common.{◌≡◌, ◌⊎◌, inl, inr, refl, ap, sym, ◌∙◌, subst, Bool, true, false, arith}
 use Rattle.l2_syntax.specs.declared.token.Mark.TheVariants as mark
-use Rattle.l2_syntax.specs.declared.token.TokenKind.{TokenKind}
 use Rattle.l2_syntax.specs.declared.token.TokenKind.TheVariants as kind
 use Rattle.l2_grammar.specs.declared.states.Sort.{Sort}
 use Rattle.l2_grammar.specs.declared.states.Sort.TheVariants as sort
-use Rattle.l2_grammar.specs.declared.states.Naming.{Naming}
 use Rattle.l2_grammar.specs.declared.states.Naming.TheVariants as naming
 use Rattle.l2_grammar.specs.declared.states.Storage.{Storage}
 use Rattle.l2_grammar.specs.declared.states.Storage.TheVariants as storage
 use Rattle.l2_grammar.specs.declared.states.Named.{Named as NamedState}
 use Rattle.l2_grammar.specs.declared.states.Shape.{Shape}
-use Rattle.l2_grammar.specs.declared.states.Shape.TheVariants as shape
 use Rattle.l2_grammar.specs.declared.states.Right.TheVariants as right
 use Rattle.l2_grammar.specs.declared.states.State.{State}
 use Rattle.l2_grammar.specs.declared.states.State.TheVariants as st
-use Rattle.l2_grammar.specs.declared.states.Outcome.{Outcome}
-use Rattle.l2_grammar.specs.declared.states.Outcome.TheVariants as outcome
 use Rattle.l2_grammar.specs.Marks.{is}
-use Rattle.l2_grammar.specs.Networks.{on, on_token, applied, indexed, starred, cast_in}
+use Rattle.l2_grammar.specs.Networks.{on_token, indexed, cast_in}
 use Rattle.l2_grammar.specs.Nesting as nesting
 use Rattle.l2_grammar.specs.Nesting.{values, takes_type, is_declarator, is_automatic, specifies, initialises, names, own_naming, grouped, defines, stands, on_child, opens, outcome as outcome_of}
-use Rattle.l2_grammar.specs.Trees.{Tree, begin, token, child, sort as sort_of, state as state_of, Fits}
-use Rattle.l2_tree.specs.Trees.{ExprTree, Name, Number, Text, Parenthesised, Index, Call, Member, PostUpdate, Update, Unary, Sizeof, SizeofType, Cast, Binary, Conditional, Assign, Comma, ExprTrees, no_exprs, and_expr, SpecifierTree, Word, TypeName, Struct, StructBody, Enum, EnumBody, SpecifierTrees, first_specifier, and_specifier, EnumeratorTree, Plain, Valued, EnumeratorTrees, first_enumerator, and_enumerator, ParameterTree, Bare, Declared, ParameterTrees, no_parameters, and_parameter, DeclaratorTree, Declarator, CoreTree, Absent, Named, Group, SuffixTree, Array, ArrayOf, Parameters, SuffixTrees, no_suffixes, and_suffix, InitialiserTree, Expression, Braced, InitialiserTrees, first_initialiser, and_initialiser, DeclaredTree, Uninitialised, Initialised, DeclaredTrees, no_declarators, and_declarator, DeclarationTree, Declaration, DeclarationTrees, no_declarations, and_declaration}
-use Rattle.l2_tree.specs.Spelling.{nowhere, behind, mark_at, closed, within, bracketed, binary_mark, comma_if, has_arguments, has_declarators, tag_onto, run_expr, arguments_onto, specifier_onto, specifiers_onto, members_onto, enumerator_onto, enumerators_onto, run_parameter, parameters_onto, pointers_onto, core_onto, suffix_onto, suffixes_onto, run_declarator, run_initialiser, initialisers_onto, declarators_onto, declaration_onto}
-use Rattle.l2_tree_laws.specs.Specifiers.{tally}
-use Rattle.l2_well_formed.specs.Expressions.{rank, level, has_name, is_named, all_named, is_void, no_initialiser}
-use Rattle.l2_well_formed.specs.WellFormed.{NamesType, FormedExpr, FormedArguments, FormedSpecifier, FormedSpecifiers, FormedMembers, FormedEnumerator, FormedEnumerators, FormedParameter, FormedParameters, FormedCore, FormedSuffix, FormedSuffixes, FormedInitialiser, FormedInitialisers, FormedDeclared, FormedDeclarators}
-use Rattle.l2_well_formed.proofs.Steps.{no_none, then_state, Whole, Done, operand}
+use Rattle.l2_grammar.specs.Trees.{Tree, begin, sort as sort_of, state as state_of, Fits}
+use Rattle.l2_tree.specs.Trees.{ExprTree, Name, Number, Text, Parenthesised, Index, Call, Member, PostUpdate, Update, Unary, Sizeof, SizeofType, Cast, Binary, Conditional, Assign, Comma, ExprTrees, no_exprs, and_expr, SpecifierTree, Word, TypeName, Struct, StructBody, Enum, EnumBody, SpecifierTrees, first_specifier, and_specifier, EnumeratorTree, Plain, Valued, EnumeratorTrees, first_enumerator, and_enumerator, ParameterTree, Bare, Declared, ParameterTrees, no_parameters, and_parameter, DeclaratorTree, Declarator, CoreTree, Absent, Named, Group, SuffixTree, Array, ArrayOf, Parameters, SuffixTrees, no_suffixes, and_suffix, InitialiserTree, Expression, Braced, InitialiserTrees, first_initialiser, and_initialiser, Uninitialised, Initialised, DeclaredTrees, no_declarators, and_declarator, Declaration, DeclarationTrees, no_declarations, and_declaration}
+use Rattle.l2_tree.specs.Spelling.{nowhere, behind, mark_at, closed, within, bracketed, binary_mark, comma_if, has_declarators, tag_onto, run_expr, arguments_onto, specifier_onto, specifiers_onto, members_onto, enumerator_onto, enumerators_onto, run_parameter, parameters_onto, pointers_onto, core_onto, suffix_onto, suffixes_onto, run_declarator, run_initialiser, initialisers_onto, declarators_onto}
+use Rattle.l2_well_formed.specs.Expressions.{rank, level, no_initialiser}
+use Rattle.l2_well_formed.specs.WellFormed.{FormedArguments, FormedSpecifier, FormedSpecifiers, FormedMembers, FormedEnumerator, FormedEnumerators, FormedParameters, FormedCore, FormedSuffix, FormedSuffixes, FormedInitialisers, FormedDeclarators}
+use Rattle.l2_well_formed.proofs.Steps.{no_none, then_state, Done, operand}
 use Rattle.l2_well_formed.proofs.Tokens.{binary_follows, assignment_follows, update_follows, member_follows, index_follows, call_follows, question_follows, comma_follows}
-use Rattle.l2_well_formed.proofs.Counts.{members_state, members_before, enumerators_before, comma_before, specifier_before, enumerator_before, AtName, named_state as enumerator_named, enumerators_state, comma_state, specifiers_said, fresh_ready}
-use Rattle.l2_well_formed.proofs.Specifiers.{told, void_told}
-use Rattle.l2_well_formed.proofs.Shapes.{has_pointers, shape_of, core_shape, suffix_shape, suffixes_shape, shape_named}
+use Rattle.l2_well_formed.proofs.Counts.{members_state, members_before, enumerators_before, comma_before, specifier_before, enumerator_before, AtName, named_state as enumerator_named, enumerators_state, comma_state, fresh_ready}
+use Rattle.l2_well_formed.proofs.Shapes.{has_pointers, shape_of, core_shape, suffix_shape, suffixes_shape}
 use Rattle.l2_well_formed.proofs.Declarators.{Starring, At, starring_at, pointers_state, name_state, group_state, bracket_state, parenthesis_state, Declares, at_outcome, declarator, pointers_sort, core_sort, suffixes_sort, suffix_before, suffixes_before, grouped_declarator, named_state, Opened}
-use Rattle.l2_well_formed.proofs.Parameters.{open_state, ParameterDone, type_name, Listed, More, first_parameter, next_parameter, close_state}
+use Rattle.l2_well_formed.proofs.Parameters.{open_state, ParameterDone, type_name, Listed, first_parameter, next_parameter, close_state}
 use Rattle.l2_well_formed.proofs.Declarations.{specifiers_sort, declarators_sort, typing, typing_specifies, typing_names, no_storage, declared, InitialiserDone, initialiser, bare, with_declarator, Ended, comma_next, equal_next, no_init}
 use Rattle.l2_well_formed.proofs.Starts.{name_whole, number_whole, text_whole, sizeof_state, unary_state, update_state, after_have, follow, paren_operands, cast_right, struct_base, enum_base}
 
@@ -85,6 +77,7 @@ pub record DeclaratorsDone (ds : DeclaredTrees) (r : Tree) (w : Storage) (y : Na
 
 mutual
   unfolding on_token on_child opens is outcome_of
+
   pub expr_formed : (s : Sort) (e : ExprTree) → values s ≡ true → Fits (run_expr s e) → Done e (run_expr s e)
   expr_formed s (Name n p) v f = record { formed = tt; whole = name_whole s n v }
   expr_formed s (Number z y p) v f = record { formed = tt; whole = number_whole s z y v }
@@ -174,9 +167,14 @@ mutual
       let t = typing (begin z) xs es (fresh_ready z) f.1 in let a = specifiers_onto (begin z) xs in
       let e : sort_of a ≡ sort.Member = specifiers_sort (begin z) xs ∙ k in
       let y = declarators_formed es a t.words t.name t.state (ap nesting.naming e) f.1.0 in
-      let auto : t.words ≡ storage.Automatic = member_words t.words (subst (λ s. specifies s t.words ≡ true) k (typing_specifies (begin z) xs t)) in
-      (members_formed ds r w i f.0, typing_names (begin z) xs 0 (fresh_ready z) t (no_storage t.words auto), specifiers_formed xs (begin z) t.fits,
-      member_declares es a t.words t.name e t.state f.1, y.plain (ap (λ s. initialises s t.words) e), y.formed)
+      let auto : t.words ≡ storage.Automatic = member_words t.words (subst (λ s. specifies s t.words ≡ true) k (typing_specifies (begin z) xs t)) in (
+        members_formed ds r w i f.0,
+        typing_names (begin z) xs 0 (fresh_ready z) t (no_storage t.words auto),
+        specifiers_formed xs (begin z) t.fits,
+        member_declares es a t.words t.name e t.state f.1,
+        y.plain (ap (λ s. initialises s t.words) e),
+        y.formed,
+      )
 
   pub declarators_formed : (ds : DeclaredTrees) (r : Tree) (w : Storage) (y : NamedState) → state_of r ≡ st.Typed w y → nesting.naming (sort_of r) ≡ naming.Named → Fits (declarators_onto r ds) → DeclaratorsDone ds r w y
   declarators_formed no_declarators r w y j n f = record { formed = tt; ended = j; plain = λ e. refl }

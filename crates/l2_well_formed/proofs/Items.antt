@@ -1,8 +1,7 @@
 -- How statements begin, and how a declaration ends.
-use Rattle.std.proofs.Common.{◌≡◌, ◌≤◌, ◌⊎◌, inl, inr, refl, ap, sym, ◌∙◌, subst, ℕ, Bool, true, false, cond, not, ◌&&◌, Option, None, Some, arith}
+use Rattle.std.proofs.Common.{◌≡◌, ◌≤◌, ◌⊎◌, inl, inr, refl, ap, ◌∙◌, subst, ℕ, true, false, Option, Some, arith}
 use Rattle.l2_syntax.specs.declared.token.Mark.TheVariants as mark
 use Rattle.l2_syntax.specs.declared.token.TokenKind.TheVariants as kind
-use Rattle.l2_grammar.specs.declared.states.Items.{Items}
 use Rattle.l2_grammar.specs.declared.states.Items.TheVariants as items
 use Rattle.l2_grammar.specs.declared.states.Sort.{Sort}
 use Rattle.l2_grammar.specs.declared.states.Sort.TheVariants as sort
@@ -13,24 +12,21 @@ use Rattle.l2_grammar.specs.declared.states.Named.{Named}
 use Rattle.l2_grammar.specs.declared.states.Named.TheVariants as named
 use Rattle.l2_grammar.specs.declared.states.State.{State}
 use Rattle.l2_grammar.specs.declared.states.State.TheVariants as st
-use Rattle.l2_grammar.specs.declared.states.Outcome.{Outcome}
-use Rattle.l2_grammar.specs.declared.states.Outcome.TheVariants as outcome
 use Rattle.l2_grammar.specs.Marks.{is}
-use Rattle.l2_grammar.specs.Networks.{on, on_token}
+use Rattle.l2_grammar.specs.Networks.{on_token}
 use Rattle.l2_grammar.specs.Nesting as nesting
 use Rattle.l2_grammar.specs.Nesting.{values, is_item, is_declarator, specifies, initialises, defines, stands, on_child, opens, outcome as outcome_of}
-use Rattle.l2_grammar.specs.Trees.{Tree, begin, token, child, sort as sort_of, state as state_of, Fits}
+use Rattle.l2_grammar.specs.Trees.{Tree, sort as sort_of, state as state_of, Fits}
 use Rattle.l2_tree.specs.Trees.{DeclaredTrees, no_declarators, and_declarator, DeclarationTree, Declaration, SpecifierTrees}
 use Rattle.l2_tree.specs.Spelling.{has_declarators, closed, specifiers_onto, declarators_onto, declaration_onto}
 use Rattle.l2_tree_laws.specs.Specifiers.{Base, tagged, nothing, other_of}
-use Rattle.l2_well_formed.specs.Expressions.{no_initialiser}
-use Rattle.l2_well_formed.specs.WellFormed.{NamesType, FormedSpecifiers, FormedDeclarators, Tags, FormedDeclaration, without_initialisers}
+use Rattle.l2_well_formed.specs.WellFormed.{Tags, FormedDeclaration, without_initialisers}
 use Rattle.l2_well_formed.proofs.Steps.{no_none}
 use Rattle.l2_well_formed.proofs.Tokens.{Follows}
 use Rattle.l2_well_formed.proofs.Counts.{Ready, stored_words}
 use Rattle.l2_well_formed.proofs.Specifiers.{Kind, kinds, is_typed}
-use Rattle.l2_well_formed.proofs.Declarations.{specifiers_sort, declarators_sort, Typing, typing, typing_names, typing_specifies, Ended}
-use Rattle.l2_well_formed.proofs.Formed.{specifiers_formed, DeclaratorsDone, declarators_formed}
+use Rattle.l2_well_formed.proofs.Declarations.{specifiers_sort, Typing, typing, typing_names, Ended}
+use Rattle.l2_well_formed.proofs.Formed.{specifiers_formed, declarators_formed}
 
 -- ---- how a statement begins
 
@@ -160,6 +156,7 @@ end_state s (and_declarator ds d) q w y (inr e) h = ap (λ z. on_token s z (kind
 pub record DeclarationDone (n : ℕ) (d : DeclarationTree) (r : Tree) : Type 0 where
   pub formed : FormedDeclaration n d
   pub state : state_of (declaration_onto r d) ≡ st.DeclarationEnd
+  pub plain : ((xs : SpecifierTrees) (t : Typing r xs) → initialises (sort_of r) t.words ≡ false) → without_initialisers d ≡ true
 
 tags_or : (r : Tree) (xs : SpecifierTrees) (ds : DeclaredTrees) (t : Typing r xs) → is_typed (state_of r) ≡ false → Fits (closed (declarators_onto (specifiers_onto r xs) ds) mark.Semicolon) → (has_declarators ds ≡ true) ⊎ Tags xs
 tags_or r xs no_declarators t i f =
@@ -170,8 +167,11 @@ pub declaration_formed : (n : ℕ) (d : DeclarationTree) (r : Tree) → Ready r 
 declaration_formed n (Declaration xs ds) r i j k h f =
     let t = typing r xs ds i f in let a = specifiers_onto r xs in
     let y = declarators_formed ds a t.words t.name t.state (ap nesting.naming (specifiers_sort r xs) ∙ k) f.0 in
-    record { formed = (typing_names r xs n i t (h xs t), specifiers_formed xs r t.fits, tags_or r xs ds t j f, y.formed);
-      state = end_state (sort_of (declarators_onto a ds)) ds (state_of (declarators_onto a ds)) t.words t.name y.ended f.1 }
+    record {
+      formed = (typing_names r xs n i t (h xs t), specifiers_formed xs r t.fits, tags_or r xs ds t j f, y.formed);
+      state = end_state (sort_of (declarators_onto a ds)) ds (state_of (declarators_onto a ds)) t.words t.name y.ended f.1;
+      plain = λ g. y.plain (ap (λ s. initialises s t.words) (specifiers_sort r xs) ∙ g xs t);
+    }
 
 pub stored_once : (r : Tree) (xs : SpecifierTrees) (t : Typing r xs) → stored_words t.words ≤ 1
 stored_once r xs t = one_stored t.words

@@ -10,4 +10,5 @@ pub mod Declarations
 pub mod Formed
 pub mod Items
 pub mod Statements
+pub mod Typedefs
 pub mod Units

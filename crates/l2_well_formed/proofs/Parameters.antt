@@ -1,5 +1,5 @@
 -- The states of parameters and of the names of types.
-use Rattle.std.proofs.Common.{◌≡◌, ◌⊎◌, inl, inr, refl, ap, sym, ◌∙◌, subst, ℕ, Bool, true, false, cond, ◌&&◌, ◌||◌}
+use Rattle.std.proofs.Common.{◌≡◌, ◌⊎◌, inl, inr, refl, ap, sym, ◌∙◌, subst, Bool, true, false, cond, ◌&&◌, ◌||◌}
 use Rattle.l2_syntax.specs.declared.place.Place.{Place}
 use Rattle.l2_syntax.specs.declared.token.Mark.TheVariants as mark
 use Rattle.l2_syntax.specs.declared.token.TokenKind.TheVariants as kind
@@ -14,13 +14,12 @@ use Rattle.l2_grammar.specs.declared.states.Shape.{Shape}
 use Rattle.l2_grammar.specs.declared.states.Shape.TheVariants as shape
 use Rattle.l2_grammar.specs.declared.states.State.{State}
 use Rattle.l2_grammar.specs.declared.states.State.TheVariants as st
-use Rattle.l2_grammar.specs.declared.states.Outcome.{Outcome}
 use Rattle.l2_grammar.specs.declared.states.Outcome.TheVariants as outcome
 use Rattle.l2_grammar.specs.Marks.{is}
-use Rattle.l2_grammar.specs.Networks.{on, on_token, applied, cast_in}
+use Rattle.l2_grammar.specs.Networks.{on_token, applied, cast_in}
 use Rattle.l2_grammar.specs.Nesting as nesting
 use Rattle.l2_grammar.specs.Nesting.{values, takes_type, is_declarator, is_automatic, specifies, names, own_naming, grouped, stands, on_child, opens, outcome as outcome_of}
-use Rattle.l2_grammar.specs.Trees.{Tree, begin, token, child, sort as sort_of, state as state_of, Fits}
+use Rattle.l2_grammar.specs.Trees.{Tree, begin, child, sort as sort_of, state as state_of, Fits}
 use Rattle.l2_tree.specs.Trees.{ParameterTree, Bare, Declared, ParameterTrees, no_parameters, and_parameter}
 use Rattle.l2_tree.specs.Spelling.{nowhere, mark_at, closed, within, bracketed, run_parameter}
 use Rattle.l2_well_formed.specs.Expressions.{is_named, all_named, is_void, may_define}
@@ -116,8 +115,11 @@ pub type_name : (s : Sort) (p : Place) (t : ParameterTree) → ((z : Sort) → F
 unfolding on_token on_child opens is
 type_name s p t h v f =
     let a = mark_at (begin s) mark.OpenParenthesis p in let y = parameter a st.Paren t h (open_state s v) (inside_automatic (takes_type s)) refl f.0 in
-    record { unnamed = no_name (takes_type s) t y.names_in (type_taken (takes_type s) y.words y.allowed); formed = y.formed;
-      state = then_state (within a (λ z. run_parameter z t)) (kind.Mark mark.CloseParenthesis) nowhere (cast_in s) y.state refl }
+    record {
+      unnamed = no_name (takes_type s) t y.names_in (type_taken (takes_type s) y.words y.allowed);
+      formed = y.formed;
+      state = then_state (within a (λ z. run_parameter z t)) (kind.Mark mark.CloseParenthesis) nowhere (cast_in s) y.state refl;
+    }
 
 -- ---- the parameters of a declarator
 

@@ -1,14 +1,14 @@
 -- What a declarator's name is: nothing, an object, a function, or what is made of one.
-use Rattle.std.proofs.Common.{◌≡◌, refl, ap, sym, ◌∙◌, subst, Bool, true, false, ◌||◌, List, [], ◌∷◌, Option, None, Some, is_some}
+use Rattle.std.proofs.Common.{◌≡◌, refl, ap, sym, ◌∙◌, subst, Bool, true, false, List, [], ◌∷◌, Option, None, Some, is_some}
 use Rattle.l2_syntax.specs.declared.place.Place.{Place}
 use Rattle.l2_grammar.specs.declared.states.Shape.{Shape}
 use Rattle.l2_grammar.specs.declared.states.Shape.TheVariants as shape
 use Rattle.l2_grammar.specs.Networks.{applied, indexed, starred}
 use Rattle.l2_grammar.specs.Nesting as nesting
 use Rattle.l2_tree.specs.declared.expression.Pointer.{Pointer}
-use Rattle.l2_tree.specs.Trees.{DeclaratorTree, Declarator, CoreTree, Absent, Named, Group, SuffixTree, Array, ArrayOf, Parameters, SuffixTrees, no_suffixes, and_suffix, ParameterTrees}
+use Rattle.l2_tree.specs.Trees.{DeclaratorTree, Declarator, CoreTree, Absent, Named, Group, SuffixTree, Parameters, SuffixTrees, no_suffixes, and_suffix, ParameterTrees}
 use Rattle.l2_tree.specs.Build.{some_or}
-use Rattle.l2_tree_names.specs.Declarators.{name_of, core_name, Round, before, behind, first_suffix, last_pointer, round_of, nearest, core_nearest, parameters_in, parameters_of}
+use Rattle.l2_tree_names.specs.Declarators.{core_name, Round, behind, first_suffix, last_pointer, round_of, nearest, core_nearest, parameters_in}
 use Rattle.l2_well_formed.specs.Expressions.{has_name, may_define}
 use Rattle.l2_well_formed.specs.WellFormed.{Defines}
 

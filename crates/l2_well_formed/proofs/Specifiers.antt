@@ -1,9 +1,7 @@
 -- What the state behind specifiers says of them.
-use Rattle.std.proofs.Common.{◌≡◌, ◌≤◌, ◌⊎◌, inl, inr, refl, ap, sym, ◌∙◌, subst, ℕ, Bool, true, false, cond, not, ◌&&◌, leb, List, Option, None, Some, is_none, arith}
+use Rattle.std.proofs.Common.{◌≡◌, refl, ap, sym, ◌∙◌, subst, ℕ, Bool, true, false, cond, leb, Option, None, Some, is_none}
 use Rattle.l2_syntax.specs.declared.place.Place.{Place}
-use Rattle.l2_syntax.specs.declared.token.Mark.{Mark}
 use Rattle.l2_syntax.specs.declared.token.Mark.TheVariants as mark
-use Rattle.l2_syntax.specs.declared.token.TokenKind.{TokenKind}
 use Rattle.l2_syntax.specs.declared.token.TokenKind.TheVariants as kind
 use Rattle.l2_grammar.specs.declared.states.Items.TheVariants as items
 use Rattle.l2_grammar.specs.declared.states.Sort.{Sort}
@@ -19,20 +17,18 @@ use Rattle.l2_grammar.specs.declared.states.Named.TheVariants as named
 use Rattle.l2_grammar.specs.declared.states.State.{State}
 use Rattle.l2_grammar.specs.declared.states.State.TheVariants as st
 use Rattle.l2_grammar.specs.Marks.{is}
-use Rattle.l2_grammar.specs.Networks.{on, store, add_sign, add_core, add_short, add_long, add_word, on_token, on_word, on_end, begun_as, begun_item_in, continued, wants_left, closed as closed_name}
+use Rattle.l2_grammar.specs.Networks.{store, add_sign, add_core, add_short, add_long, on_token, begun_as, closed as closed_name}
 use Rattle.l2_grammar.specs.Nesting.{is_nothing}
-use Rattle.l2_grammar.specs.Trees.{Tree, begin, sort as sort_of, state as state_of, Fits}
+use Rattle.l2_grammar.specs.Trees.{Tree, sort as sort_of, state as state_of, Fits}
 use Rattle.l2_tree.specs.declared.operators.SpecifierWord.{SpecifierWord}
 use Rattle.l2_tree.specs.declared.operators.SpecifierWord.TheVariants as word
-use Rattle.l2_tree.specs.declared.expression.Tag.{Tag}
 use Rattle.l2_tree.specs.Trees.{SpecifierTree, Word, TypeName, Struct, StructBody, Enum, EnumBody, SpecifierTrees, first_specifier, and_specifier}
 use Rattle.l2_tree.specs.Build.{some_or}
 use Rattle.l2_tree.specs.Spelling.{word_mark, mark_at, specifier_onto, specifiers_onto}
-use Rattle.l2_tree_laws.specs.Specifiers.{Tally, nothing, tally, names_type, is_zero, Base, void, tagged, other, other_of}
+use Rattle.l2_tree_laws.specs.Specifiers.{nothing, tally, names_type, is_zero, Base, void, tagged, other, other_of}
 use Rattle.l2_tree_laws.proofs.Types.{other_found}
-use Rattle.l2_well_formed.proofs.Counts.{Said, stored_words, type_tally, possible, names_one, Ready, specifiers_said, fresh_ready}
+use Rattle.l2_well_formed.proofs.Counts.{Said, stored_words, type_tally, possible, names_one, Ready, specifiers_said}
 use Rattle.l2_well_formed.specs.Expressions.{is_void_base}
-use Rattle.l2_well_formed.specs.WellFormed.{Tags}
 
 -- ---- one type, and its storage
 

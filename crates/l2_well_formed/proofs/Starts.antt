@@ -1,5 +1,5 @@
 -- How expressions, structs and enums begin.
-use Rattle.std.proofs.Common.{◌≡◌, ◌≤◌, refl, ap, sym, ◌∙◌, subst, ℕ, ℤ, Bool, true, false, cond, leb, Option, None, Some}
+use Rattle.std.proofs.Common.{◌≡◌, ◌≤◌, refl, sym, ◌∙◌, subst, ℕ, ℤ, Bool, true, false, cond, leb, Option, None, Some}
 use Rattle.l2_syntax.specs.declared.place.Place.{Place}
 use Rattle.l2_syntax.specs.declared.token.Scalar.{Scalar}
 use Rattle.l2_syntax.specs.declared.token.Mark.TheVariants as mark
@@ -16,9 +16,9 @@ use Rattle.l2_grammar.specs.declared.states.State.{State}
 use Rattle.l2_grammar.specs.declared.states.State.TheVariants as st
 use Rattle.l2_grammar.specs.declared.states.Outcome.{Outcome}
 use Rattle.l2_grammar.specs.Marks.{is}
-use Rattle.l2_grammar.specs.Networks.{on, on_token, continued, wants_left, cast_in}
+use Rattle.l2_grammar.specs.Networks.{on_token, cast_in}
 use Rattle.l2_grammar.specs.Nesting.{values, takes_type, stands, on_child, opens}
-use Rattle.l2_grammar.specs.Trees.{Tree, begin, token, child, sort as sort_of, state as state_of, Fits}
+use Rattle.l2_grammar.specs.Trees.{Tree, sort as sort_of, state as state_of, Fits}
 use Rattle.l2_tree.specs.declared.operators.UnaryOperator.{UnaryOperator}
 use Rattle.l2_tree.specs.declared.operators.UnaryOperator.TheVariants as unary
 use Rattle.l2_tree.specs.declared.operators.UpdateOperator.{UpdateOperator}

@@ -1,5 +1,5 @@
 -- What stands in a unit is formed: statements.
-use Rattle.std.proofs.Common.{◌≡◌, ◌≤◌, ◌⊎◌, inl, inr, refl, ap, sym, ◌∙◌, subst, ℕ, Bool, true, false, cond, not, ◌&&◌, Option, None, Some}
+use Rattle.std.proofs.Common.{◌≡◌, ◌⊎◌, inl, inr, refl, ap, ◌∙◌, subst, Bool, true, false, Option, None, Some}
 use Rattle.l2_syntax.specs.declared.place.Place.{Place}
 use Rattle.l2_syntax.specs.declared.token.Mark.{Mark}
 use Rattle.l2_syntax.specs.declared.token.Mark.TheVariants as mark
@@ -12,15 +12,15 @@ use Rattle.l2_grammar.specs.declared.states.State.TheVariants as st
 use Rattle.l2_grammar.specs.declared.states.Outcome.{Outcome}
 use Rattle.l2_grammar.specs.declared.states.Outcome.TheVariants as outcome
 use Rattle.l2_grammar.specs.Marks.{is}
-use Rattle.l2_grammar.specs.Networks.{on, on_token}
+use Rattle.l2_grammar.specs.Networks.{on_token}
 use Rattle.l2_grammar.specs.Nesting as nesting
 use Rattle.l2_grammar.specs.Nesting.{is_item, behind_statement, behind_item, stands, on_child, opens, outcome as outcome_of}
-use Rattle.l2_grammar.specs.Trees.{Tree, begin, token, child, sort as sort_of, state as state_of, Fits}
+use Rattle.l2_grammar.specs.Trees.{Tree, begin, child, sort as sort_of, state as state_of, Fits}
 use Rattle.l2_tree.specs.Trees.{ExprTree, FirstTree, NoFirst, FirstExpression, FirstDeclaration, StmtTree, Declare, Block, Evaluate, Empty, If, IfElse, While, Switch, Do, For, Case, Default, Label, Break, Continue, Return, ReturnValue, StmtTrees, no_stmts, and_stmt, Branch, BranchTree, BranchTrees, first_branch, and_branch}
-use Rattle.l2_tree.specs.Spelling.{nowhere, behind, mark_at, closed, within, bracketed, run_expr, run_declaration, perhaps, first_onto, head_onto, run_stmt, stmts_onto, branch_onto, branches_onto}
+use Rattle.l2_tree.specs.Spelling.{nowhere, behind, mark_at, closed, within, run_expr, run_declaration, perhaps, first_onto, head_onto, run_stmt, stmts_onto, branch_onto, branches_onto}
 use Rattle.l2_well_formed.specs.Expressions.{level, is_declaration, is_if, is_shut, shut_branch, last_shut}
 use Rattle.l2_well_formed.specs.WellFormed.{FormedExpr, FormedPerhaps, FormedFirst, FormedStmt, FormedItems, FormedBranch, FormedBranches}
-use Rattle.l2_well_formed.proofs.Steps.{no_none, then_state, operands, Put, operand}
+use Rattle.l2_well_formed.proofs.Steps.{no_none, then_state, operands, operand}
 use Rattle.l2_well_formed.proofs.Counts.{fresh_ready}
 use Rattle.l2_well_formed.proofs.Formed.{expr_formed}
 use Rattle.l2_well_formed.proofs.Starts.{follow}
@@ -152,6 +152,7 @@ perhaps_before r (Some e) f = f.0
 
 mutual
   unfolding on_token on_child opens is outcome_of
+
   pub stmt_formed : (t : StmtTree) (z : Sort) → is_item z ≡ true → Fits (run_stmt z t) → StmtDone t (run_stmt z t)
   stmt_formed (Declare d) z v f =
       let y = declaration_formed 1 d (begin z) (fresh_ready z) refl (item_naming z v) (stored_once (begin z)) f in record { formed = y.formed; stated = inl (ap outcome_of y.state) }

@@ -1,19 +1,15 @@
 -- How a construct goes on behind an expression, and with one in it.
-use Rattle.std.proofs.Common.{◌≡◌, ◌≤◌, ◌⊎◌, inl, inr, refl, ap, sym, ◌∙◌, subst, ℕ, Bool, true, false, cond, not, ◌&&◌, leb, List, Option, arith}
-use Rattle.std.proofs.lemmas.Bool.{leb-true, le-leb}
+use Rattle.std.proofs.Common.{◌≡◌, ◌≤◌, refl, ap, sym, ◌∙◌, subst, ℕ, Bool, true, false, cond, not, ◌&&◌, leb}
+use Rattle.std.proofs.lemmas.Bool.{leb-true}
 use Rattle.l2_syntax.specs.declared.place.Place.{Place}
-use Rattle.l2_syntax.specs.declared.token.Mark.{Mark}
 use Rattle.l2_syntax.specs.declared.token.Mark.TheVariants as mark
 use Rattle.l2_syntax.specs.declared.token.TokenKind.{TokenKind}
-use Rattle.l2_syntax.specs.declared.token.TokenKind.TheVariants as kind
 use Rattle.l2_grammar.specs.declared.states.Sort.{Sort}
-use Rattle.l2_grammar.specs.declared.states.Sort.TheVariants as sort
 use Rattle.l2_grammar.specs.declared.states.State.{State}
 use Rattle.l2_grammar.specs.declared.states.State.TheVariants as st
-use Rattle.l2_grammar.specs.declared.states.Outcome.{Outcome}
 use Rattle.l2_grammar.specs.declared.states.Outcome.TheVariants as outcome
 use Rattle.l2_grammar.specs.Marks.{is}
-use Rattle.l2_grammar.specs.Networks.{on, on_token, continued, wants_left}
+use Rattle.l2_grammar.specs.Networks.{on_token, continued, wants_left}
 use Rattle.l2_grammar.specs.Nesting.{values, value_at, least, is_item, stands, on_child, opens, outcome as outcome_of}
 use Rattle.l2_grammar.specs.Trees.{Tree, begin, token, child, sort as sort_of, state as state_of, Fits}
 use Rattle.l2_grammar.proofs.Tokens.{none_stands}

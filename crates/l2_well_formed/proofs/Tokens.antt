@@ -1,6 +1,5 @@
 -- The tokens of operators.
-use Rattle.std.proofs.Common.{◌≡◌, ◌≤◌, refl, ℕ, Bool, true, false, leb}
-use Rattle.l2_syntax.specs.declared.token.Mark.{Mark}
+use Rattle.std.proofs.Common.{◌≡◌, refl, ℕ, true, false, leb}
 use Rattle.l2_syntax.specs.declared.token.Mark.TheVariants as mark
 use Rattle.l2_syntax.specs.declared.token.TokenKind.{TokenKind}
 use Rattle.l2_syntax.specs.declared.token.TokenKind.TheVariants as kind

@@ -1,8 +1,8 @@
 -- How tightly the parts of an expression hold together (C11 6.5), and what declarators and statements are as parts.
-use Rattle.std.specs.Prelude.{ℕ, Bool, true, false, ◌&&◌, ◌||◌, is_some, List, [], Option, Some}
+use Rattle.std.specs.Prelude.{ℕ, Bool, true, false, ◌&&◌, ◌||◌, is_some, [], Option, Some}
 use Rattle.l2_tree.specs.declared.operators.BinaryOperator.{BinaryOperator}
 use Rattle.l2_tree.specs.declared.operators.BinaryOperator.TheVariants as binary
-use Rattle.l2_tree.specs.Trees.{ExprTree, Update, Unary, Sizeof, SizeofType, Cast, Binary, Conditional, Assign, Comma, SpecifierTrees, ParameterTree, Bare, Declared, ParameterTrees, no_parameters, and_parameter, DeclaratorTree, Declarator, Absent, no_suffixes, Uninitialised, DeclaredTrees, no_declarators, and_declarator, StmtTree, Declare, If, IfElse, While, Switch, For, Case, Default, Label, Branch, BranchTree, BranchTrees, first_branch, and_branch}
+use Rattle.l2_tree.specs.Trees.{ExprTree, Update, Unary, Sizeof, SizeofType, Cast, Binary, Conditional, Assign, Comma, ParameterTree, Bare, Declared, ParameterTrees, no_parameters, and_parameter, DeclaratorTree, Declarator, Absent, no_suffixes, Uninitialised, DeclaredTrees, no_declarators, and_declarator, StmtTree, Declare, If, IfElse, While, Switch, For, Case, Default, Label, Branch, BranchTree, BranchTrees, first_branch, and_branch}
 use Rattle.l2_tree_laws.specs.Specifiers.{Base, void, other_of}
 use Rattle.l2_tree_names.specs.Declarators.{name_of}
 
