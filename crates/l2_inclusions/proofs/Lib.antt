@@ -1,1 +1,3 @@
 pub mod Having
+pub mod Numbers
+pub mod Sharing

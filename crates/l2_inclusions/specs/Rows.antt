@@ -38,6 +38,14 @@ pub record Grows (a : RowsValue) (b : RowsValue) : Type 0 where
 pub record Brings (xs : List Member) (m : Member) (b : Bool) : Type 0 where
   pub to : has xs m ≡ true → b ≡ true
 
+-- each is the number of a set; past the end stands the empty set
+abbrev pub AreNumbers : RowsValue → List ℕ → Type 0
+AreNumbers r list = (i : ℕ) → slice_index_or list i 0 ≤ length r.sets
+
+-- where one of these sets has this member, b is true
+abbrev pub AllBring : RowsValue → List ℕ → Member → Bool → Type 0
+AllBring r list m b = (i : ℕ) → Brings (members_at r.sets (slice_index_or list i 0)) m b
+
 -- each set of one family is within that of the other
 abbrev pub IsInside : Family → Family → Type 0
 IsInside f g = (n : ℕ) → Within (f n) (g n)

@@ -3,5 +3,8 @@
 
 mod inclusion;
 mod members;
+mod rows;
+mod unions;
 
 pub use inclusion::{Inclusion, object_node};
+pub use rows::Rows;
