@@ -1,3 +1,5 @@
 pub mod Having
 pub mod Numbers
 pub mod Sharing
+pub mod Walks
+pub mod Settled

@@ -1,3 +1,5 @@
 pub mod Inclusions
 pub mod Ordered
 pub mod Rows
+pub mod Edges
+pub mod Valuation

@@ -1,9 +1,13 @@
 //! The least sets that keep inclusions.
 #![tactic(auto)]
 
+mod graph;
 mod inclusion;
 mod members;
+mod order;
+mod reach;
 mod rows;
+mod settle;
 mod unions;
 
 pub use inclusion::{Inclusion, object_node};

@@ -78,6 +78,13 @@ impl Rows {
         })
     }
 
+    /// What holds of all rows.
+    pub fn facts(&self)
+        ensures { AreRows self.now }
+    {
+        let _at = &self.at;
+    }
+
     /// How many nodes there are.
     pub fn nodes(&self) -> usize
         ensures { result ≡ length self.now.at }
