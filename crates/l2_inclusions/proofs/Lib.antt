@@ -3,3 +3,4 @@ pub mod Numbers
 pub mod Sharing
 pub mod Walks
 pub mod Settled
+pub mod Due

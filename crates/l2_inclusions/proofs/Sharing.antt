@@ -39,10 +39,10 @@ grows_push sets more at y e =
     subst (λ (zs : List PointsTo). Grows (record { sets = sets; at = at }) (record { sets = zs; at = at })) (sym e)
     (record { at = refl; more = omega (arith, length-append sets (y ∷ [])); kept = λ k h. members_kept sets (y ∷ []) k h })
 
-pub rows_push : (sets more : List PointsTo) (at : List ℕ) (y : PointsTo) → more ≡ sets ++ y ∷ [] → AreRows (record { sets = sets; at = at }) → Rises y.members → AreRows (record { sets = more; at = at })
-rows_push sets more at y e r h =
+pub rows_push : (sets more : List PointsTo) (at : List ℕ) (y : PointsTo) → length sets < 4294967295 → more ≡ sets ++ y ∷ [] → AreRows (record { sets = sets; at = at }) → Rises y.members → AreRows (record { sets = more; at = at })
+rows_push sets more at y small e r h =
     subst (λ (zs : List PointsTo). AreRows (record { sets = zs; at = at })) (sym e)
-    (record { numbers = λ n. omega (arith, r.numbers n, length-append sets (y ∷ [])); rise = all_rise_push sets y r.rise h })
+    (record { count = omega (arith, length-append sets (y ∷ [])); numbers = λ n. omega (arith, r.numbers n, length-append sets (y ∷ [])); rise = all_rise_push sets y r.rise h })
 
 pub value_push : (sets more : List PointsTo) (k : ℕ) (y : PointsTo) → more ≡ sets ++ y ∷ [] → k ≡ length more → members_at more k ≡ y.members
 value_push sets more k y e h =

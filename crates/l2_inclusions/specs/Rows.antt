@@ -1,5 +1,5 @@
 -- The sets of nodes as they are kept: equal ones are shared.
-use Rattle.std.specs.Prelude.{◌≡◌, ℕ, ◌≤◌, Bool, true, List, length, slice_index_or}
+use Rattle.std.specs.Prelude.{◌≡◌, ℕ, ◌≤◌, ◌<◌, Bool, true, List, length, slice_index_or}
 use Rattle.l2_runs.specs.declared.member.Member.{Member}
 use Rattle.l2_runs.specs.Numbers.{at_number}
 use Rattle.l2_runs.specs.Members.{has, Within}
@@ -23,8 +23,9 @@ number_at r n = slice_index_or r.at n 0
 abbrev pub set_at : RowsValue → Family
 set_at r n = has (members_at r.sets (number_at r n))
 
--- each node leads to a set, and the members of each set are in order, each once
+-- each node leads to a set, and the members of each set are in order, each once; numbers of sets have 32 bits
 pub record AreRows (r : RowsValue) : Type 0 where
+  pub count : length r.sets < 4294967296
   pub numbers : (n : ℕ) → number_at r n ≤ length r.sets
   pub rise : AllRise r.sets
 

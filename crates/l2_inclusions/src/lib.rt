@@ -1,6 +1,7 @@
 //! The least sets that keep inclusions.
 #![tactic(auto)]
 
+mod build;
 mod graph;
 mod inclusion;
 mod members;

@@ -1,5 +1,5 @@
 // The sets of nodes; equal sets are shared.
-ghost use Rattle.std.specs.Prelude.{◌≡◌, ◌+◌, ◌≤◌, ◌<◌, ◌++◌, ◌∷◌, [], ℕ, Bool, List, length, IfOk, OnOk, slice_set, slice_index_or};
+ghost use Rattle.std.specs.Prelude.{◌≡◌, ◌+◌, ◌^◌, ◌≤◌, ◌<◌, ◌++◌, ◌∷◌, [], ℕ, Bool, List, length, IfOk, OnOk, slice_set, slice_index_or};
 ghost use Rattle.l2_runs.specs.declared.member.Member.{Member};
 ghost use Rattle.l2_code.specs.Sets.{Rises};
 ghost use Rattle.l2_inclusions.specs.Rows.{RowsValue, members_at, number_at, AreRows, Grows, Brings};
@@ -87,14 +87,16 @@ impl Rows {
 
     /// How many nodes there are.
     pub fn nodes(&self) -> usize
-        ensures { result ≡ length self.now.at }
+        ensures value { result ≡ length self.now.at }
+        ensures small { result < 2 ^ 63 }
     {
         self.at.len()
     }
 
     /// How many sets there are.
     pub fn sets(&self) -> usize
-        ensures { result ≡ length self.now.sets }
+        ensures value { result ≡ length self.now.sets }
+        ensures small { result < 2 ^ 32 }
     {
         self.sets.len()
     }

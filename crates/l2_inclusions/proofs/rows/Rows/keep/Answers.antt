@@ -6,7 +6,7 @@ use Rattle.l2_inclusions.proofs.rows.Rows.keep.Goals as goal
 
 pub invariant_of-self-2 : goal.invariant_of-self-2
 invariant_of-self-2 c =
-    rows_push c.self.inside.sets.items c.push.new.self.items c.self.inside.at.items _ c.in_ok-push.ensures.items c.self.invariant (subst Rises (sym c.new.ensures) c.requires)
+    rows_push c.self.inside.sets.items c.push.new.self.items c.self.inside.at.items _ (omega arith) c.in_ok-push.ensures.items c.self.invariant (subst Rises (sym c.new.ensures) c.requires)
 
 pub returns-clause-grows : goal.returns-clause-grows
 returns-clause-grows c =
