@@ -77,9 +77,9 @@ objects_at f m (Invalid ∷ ms) o h e = objects_at f m ms o h e
 objects_at f m (Object p ∷ ms) o h e =
     at_first (p == o) refl (λ g. objects_at f m ms o g (and_second (f (object_node p) m) (objects_may f m ms) e))
   where
-  at_first : (b : Bool) → (p == o) ≡ b → (has ms (Object o) ≡ true → f (object_node o) m ≡ true) → f (object_node o) m ≡ true
-  at_first true s later = subst (λ (x : ℕ). f (object_node x) m ≡ true) (eqb-true p o s) (and_first (f (object_node p) m) (objects_may f m ms) e)
-  at_first false s later = later (or_second (p == o) (has ms (Object o)) s h)
+    at_first : (b : Bool) → (p == o) ≡ b → (has ms (Object o) ≡ true → f (object_node o) m ≡ true) → f (object_node o) m ≡ true
+    at_first true s later = subst (λ (x : ℕ). f (object_node x) m ≡ true) (eqb-true p o s) (and_first (f (object_node p) m) (objects_may f m ms) e)
+    at_first false s later = later (or_second (p == o) (has ms (Object o)) s h)
 
 -- ---- loads by the pointers of a set
 

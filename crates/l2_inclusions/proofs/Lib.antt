@@ -4,3 +4,5 @@ pub mod Sharing
 pub mod Walks
 pub mod Settled
 pub mod Due
+pub mod Forced
+pub mod Holding

@@ -31,7 +31,7 @@ onward_leads w root edges h k d l e =
     let edge = get_or edges k d in
     implies_by (w root) (w edge.to) (λ f. h k d l (implies_on (w root) (w edge.from) e f))
 
-set_either : (xs : List ℕ) (i v n : ℕ) → (◌≡◌ {A = ℕ} (get_or (set xs i v) n 0) (get_or xs n 0)) ⊎ ((get_or (set xs i v) n 0 ≡ v) × (n ≡ i))
+pub set_either : (xs : List ℕ) (i v n : ℕ) → (◌≡◌ {A = ℕ} (get_or (set xs i v) n 0) (get_or xs n 0)) ⊎ ((get_or (set xs i v) n 0 ≡ v) × (n ≡ i))
 set_either [] i v n = inl refl
 set_either (x ∷ xs) zero v zero = inr (refl, refl)
 set_either (x ∷ xs) zero v (suc n) = inl refl
@@ -41,8 +41,10 @@ set_either (x ∷ xs) (suc i) v (suc n) = elim (set_either xs i v n) [ inl e ↦
 pub led_more : (q : ℕ → Bool) (a b c : RowsValue) (k i n : ℕ) → c.at ≡ slice_set b.at i k → q i ≡ true → IsLed q a b k n → IsLed q a c k n
 led_more q a b c k i n e h led =
     let now = ap (λ (xs : List ℕ). get_or xs n 0) e in
-    elim (set_either b.at i k n) [ inl same ↦ elim led [ inl p ↦ inl (now ∙ (same ∙ p)) | inr p ↦ inr (now ∙ (same ∙ p.0), p.1) ]
-    | inr put ↦ inr (now ∙ put.0, subst (λ (x : ℕ). q x ≡ true) (sym put.1) h) ]
+    elim (set_either b.at i k n) [
+      | inl same ↦ elim led [ inl p ↦ inl (now ∙ (same ∙ p)) | inr p ↦ inr (now ∙ (same ∙ p.0), p.1) ]
+      | inr put ↦ inr (now ∙ put.0, subst (λ (x : ℕ). q x ≡ true) (sym put.1) h)
+    ]
 
 -- what a part is given
 pub record Part (edges : List Edge) (a : RowsValue) (b : RowsValue) (c : RowsValue) (root : ℕ) (list : List ℕ) (numbers : List ℕ) (k : ℕ) (reached : List ℕ) : Type 0 where
@@ -67,17 +69,21 @@ union_toward {a = a} {root = root} {list = list} p m w leads fits =
     (p.union m (w root) (λ i. record { to = implies_on (has (members_at a.sets _) m) (w root) (each i) })).to
 
 pub part_goes : {edges : List Edge} {a b c : RowsValue} {root : ℕ} {list numbers : List ℕ} {k : ℕ} {reached : List ℕ} → Part edges a b c root list numbers k reached → GoesAlong edges a c
-part_goes {edges = edges} {a = a} {b = b} {c = c} {root = root} {k = k} p = record { fits = λ m w leads fits n h.
-    let q : ℕ → Bool = λ x. implies (w root) (w x) in
-    let onto = p.on q (onward_leads w root edges leads) (implies_by (w root) (w root) (λ e. e)) in
-    let now : has (members_at b.sets (number_at c n)) m ≡ true = subst (λ (sets : List PointsTo). has (members_at sets (number_at c n)) m ≡ true) p.sets h in
-    elim (p.led q onto n) [ inl same ↦
-    let e : number_at c n ≡ number_at a n = same ∙ ap (λ (xs : List ℕ). get_or xs n 0) p.grows.at in
-    let old : has (members_at b.sets (number_at a n)) m ≡ true = subst (λ (j : ℕ). has (members_at b.sets j) m ≡ true) e now in
-    fits n (subst (λ (ms : List Member). has ms m ≡ true) (p.grows.kept (number_at a n) (p.rows.numbers n)) old)
-    | inr put ↦
-    let there : has (members_at b.sets k) m ≡ true = subst (λ (j : ℕ). has (members_at b.sets j) m ≡ true) put.0 now in
-    implies_on (w root) (w n) put.1 (union_toward p m w leads fits there) ] }
+part_goes {edges = edges} {a = a} {b = b} {c = c} {root = root} {k = k} p = record {
+  fits = λ m w leads fits n h.
+      let q : ℕ → Bool = λ x. implies (w root) (w x) in
+      let onto = p.on q (onward_leads w root edges leads) (implies_by (w root) (w root) (λ e. e)) in
+      let now : has (members_at b.sets (number_at c n)) m ≡ true = subst (λ (sets : List PointsTo). has (members_at sets (number_at c n)) m ≡ true) p.sets h in
+      elim (p.led q onto n) [
+        | inl same ↦
+            let e : number_at c n ≡ number_at a n = same ∙ ap (λ (xs : List ℕ). get_or xs n 0) p.grows.at in
+            let old : has (members_at b.sets (number_at a n)) m ≡ true = subst (λ (j : ℕ). has (members_at b.sets j) m ≡ true) e now in
+            fits n (subst (λ (ms : List Member). has ms m ≡ true) (p.grows.kept (number_at a n) (p.rows.numbers n)) old)
+        | inr put ↦
+            let there : has (members_at b.sets k) m ≡ true = subst (λ (j : ℕ). has (members_at b.sets j) m ≡ true) put.0 now in
+            implies_on (w root) (w n) put.1 (union_toward p m w leads fits there)
+      ];
+}
 
 pub goes_self : (edges : List Edge) (a : RowsValue) → GoesAlong edges a a
 goes_self edges a = record { fits = λ m w leads fits. fits }

@@ -3,3 +3,4 @@ pub mod Ordered
 pub mod Rows
 pub mod Edges
 pub mod Valuation
+pub mod Closing

@@ -55,7 +55,12 @@ fn push_store(graph: &mut Graph, rows: &Rows, number: u32, member: Member) -> Re
 }
 
 // The edges from the objects of a set to where its pointers load, unless they are there.
-fn push_loads(graph: &mut Graph, rows: &Rows, number: u32, done: &mut Vec<bool>) -> Result<(), AllocError>
+fn push_loads(
+    graph: &mut Graph,
+    rows: &Rows,
+    number: u32,
+    done: &mut Vec<bool>,
+) -> Result<(), AllocError>
     requires { number ≤ length rows.now.sets }
     ensures { OnOk result (AddsDue rows.now graph.old graph.new) }
 {
@@ -70,7 +75,12 @@ fn push_loads(graph: &mut Graph, rows: &Rows, number: u32, done: &mut Vec<bool>)
 }
 
 // The edges to the objects of a set from where its pointers store, unless they are there.
-fn push_stores(graph: &mut Graph, rows: &Rows, number: u32, done: &mut Vec<bool>) -> Result<(), AllocError>
+fn push_stores(
+    graph: &mut Graph,
+    rows: &Rows,
+    number: u32,
+    done: &mut Vec<bool>,
+) -> Result<(), AllocError>
     requires { number ≤ length rows.now.sets }
     ensures { OnOk result (AddsDue rows.now graph.old graph.new) }
 {
@@ -96,7 +106,12 @@ fn is_first(done: &mut Vec<bool>, number: u32) -> bool {
 }
 
 // The edges for a copy.
-fn push_copy(graph: &mut Graph, rows: &Rows, inclusions: &[Inclusion], i: usize) -> Result<(), AllocError>
+fn push_copy(
+    graph: &mut Graph,
+    rows: &Rows,
+    inclusions: &[Inclusion],
+    i: usize,
+) -> Result<(), AllocError>
     ensures { OnOk result (AreDue inclusions.now rows.now graph.old → AreDue inclusions.now rows.now graph.new) }
 {
     if i < inclusions.len() {
@@ -110,7 +125,13 @@ fn push_copy(graph: &mut Graph, rows: &Rows, inclusions: &[Inclusion], i: usize)
 }
 
 // The edges for a load.
-fn push_loaded(graph: &mut Graph, rows: &Rows, inclusions: &[Inclusion], i: usize, done: &mut Vec<bool>) -> Result<(), AllocError>
+fn push_loaded(
+    graph: &mut Graph,
+    rows: &Rows,
+    inclusions: &[Inclusion],
+    i: usize,
+    done: &mut Vec<bool>,
+) -> Result<(), AllocError>
     ensures { OnOk result (AreDue inclusions.now rows.now graph.old → AreDue inclusions.now rows.now graph.new) }
 {
     if i < inclusions.len() {
@@ -126,7 +147,13 @@ fn push_loaded(graph: &mut Graph, rows: &Rows, inclusions: &[Inclusion], i: usiz
 }
 
 // The edges for a store.
-fn push_stored(graph: &mut Graph, rows: &Rows, inclusions: &[Inclusion], i: usize, done: &mut Vec<bool>) -> Result<(), AllocError>
+fn push_stored(
+    graph: &mut Graph,
+    rows: &Rows,
+    inclusions: &[Inclusion],
+    i: usize,
+    done: &mut Vec<bool>,
+) -> Result<(), AllocError>
     ensures { OnOk result (AreDue inclusions.now rows.now graph.old → AreDue inclusions.now rows.now graph.new) }
 {
     if i < inclusions.len() {

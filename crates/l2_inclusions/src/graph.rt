@@ -50,7 +50,11 @@ impl Chains {
     }
 
     fn first(&self, head: usize) -> u32 {
-        if head < self.heads.len() { self.heads[head] } else { 0 }
+        if head < self.heads.len() {
+            self.heads[head]
+        } else {
+            0
+        }
     }
 
     fn after(&self, number: u32) -> u32 {
@@ -112,12 +116,20 @@ impl Graph {
 
     /// The number of the first edge that begins at a node (backwards: that ends there), or 0.
     pub fn first(&self, backward: bool, node: usize) -> u32 {
-        if backward { self.into.first(node) } else { self.out.first(node) }
+        if backward {
+            self.into.first(node)
+        } else {
+            self.out.first(node)
+        }
     }
 
     /// The number of the edge after this one at the same node, or 0.
     pub fn after(&self, backward: bool, edge: u32) -> u32 {
-        if backward { self.into.after(edge) } else { self.out.after(edge) }
+        if backward {
+            self.into.after(edge)
+        } else {
+            self.out.after(edge)
+        }
     }
 
     /// Where an edge leads from a node (backwards: from where it leads there).

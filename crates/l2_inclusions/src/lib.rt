@@ -2,6 +2,7 @@
 #![tactic(auto)]
 
 mod build;
+mod closed;
 mod graph;
 mod inclusion;
 mod members;
@@ -9,7 +10,9 @@ mod order;
 mod reach;
 mod rows;
 mod settle;
+mod solve;
 mod unions;
 
 pub use inclusion::{Inclusion, object_node};
 pub use rows::Rows;
+pub use solve::least;

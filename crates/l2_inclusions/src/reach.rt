@@ -42,7 +42,14 @@ pub struct Walk {
 }
 
 // Appends the node that an edge leads to.
-fn step(graph: &Graph, walk: Walk, node: usize, edge: u32, tags: &mut Tags, list: &mut Vec<usize>) -> Result<(), AllocError>
+fn step(
+    graph: &Graph,
+    walk: Walk,
+    node: usize,
+    edge: u32,
+    tags: &mut Tags,
+    list: &mut Vec<usize>,
+) -> Result<(), AllocError>
     ensures { OnOk result ((w : ℕ → Bool) → Leads walk.backward w graph.now → w node ≡ true → AllPass w list.old.items → AllPass w list.new.items) }
 {
     if let Some(end) = graph.end(walk.backward, edge, node) {
@@ -54,7 +61,13 @@ fn step(graph: &Graph, walk: Walk, node: usize, edge: u32, tags: &mut Tags, list
 }
 
 // Appends the nodes that a node leads to.
-fn spread(graph: &Graph, walk: Walk, node: usize, tags: &mut Tags, list: &mut Vec<usize>) -> Result<(), AllocError>
+fn spread(
+    graph: &Graph,
+    walk: Walk,
+    node: usize,
+    tags: &mut Tags,
+    list: &mut Vec<usize>,
+) -> Result<(), AllocError>
     ensures { OnOk result ((w : ℕ → Bool) → Leads walk.backward w graph.now → w node ≡ true → AllPass w list.old.items → AllPass w list.new.items) }
 {
     let mut edge = graph.first(walk.backward, node);
@@ -69,7 +82,13 @@ fn spread(graph: &Graph, walk: Walk, node: usize, tags: &mut Tags, list: &mut Ve
 }
 
 /// The nodes that a node leads to, over nodes of the walk's tag, and it itself.
-pub fn reach(alloc: Global, graph: &Graph, walk: Walk, start: usize, tags: &mut Tags) -> Result<Vec<usize>, AllocError>
+pub fn reach(
+    alloc: Global,
+    graph: &Graph,
+    walk: Walk,
+    start: usize,
+    tags: &mut Tags,
+) -> Result<Vec<usize>, AllocError>
     ensures { IfOk result (λ v. (w : ℕ → Bool) → Leads walk.backward w graph.now → w start ≡ true → AllPass w v.items) }
 {
     let mut list = Vec::new(alloc);

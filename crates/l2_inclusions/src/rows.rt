@@ -106,7 +106,11 @@ impl Rows {
         ensures value { result ≡ number_at self.now node }
         ensures bound { result ≤ length self.now.sets }
     {
-        if node < self.at.len() { self.at[node] } else { 0 }
+        if node < self.at.len() {
+            self.at[node]
+        } else {
+            0
+        }
     }
 
     /// The members of the set of this number.

@@ -40,7 +40,14 @@ impl Numbers {
     }
 
     // Takes the number of the set of a node from where an edge leads to this one.
-    fn take_end(&mut self, graph: &Graph, rows: &Rows, node: usize, edge: u32, stamp: usize) -> Result<(), AllocError>
+    fn take_end(
+        &mut self,
+        graph: &Graph,
+        rows: &Rows,
+        node: usize,
+        edge: u32,
+        stamp: usize,
+    ) -> Result<(), AllocError>
         ensures { OnOk result ((w q : ℕ → Bool) → Leads true w graph.now → Transfers rows.now w q → w node ≡ true → EachPasses q self.old.list.items → EachPasses q self.new.list.items) }
     {
         if let Some(end) = graph.end(true, edge, node) {
@@ -50,7 +57,13 @@ impl Numbers {
     }
 
     // Takes the numbers of the sets of a node and of those that lead to it.
-    fn take_node(&mut self, graph: &Graph, rows: &Rows, node: usize, stamp: usize) -> Result<(), AllocError>
+    fn take_node(
+        &mut self,
+        graph: &Graph,
+        rows: &Rows,
+        node: usize,
+        stamp: usize,
+    ) -> Result<(), AllocError>
         ensures { OnOk result ((w q : ℕ → Bool) → Leads true w graph.now → Transfers rows.now w q → w node ≡ true → EachPasses q self.old.list.items → EachPasses q self.new.list.items) }
     {
         self.take(rows.number(node), stamp)?;
@@ -66,7 +79,14 @@ impl Numbers {
     }
 
     // Takes the numbers of the sets of nodes and of those that lead to them, and hands them out.
-    fn take_all(&mut self, alloc: Global, graph: &Graph, rows: &Rows, nodes: &[usize], stamp: usize) -> Result<Vec<u32>, AllocError>
+    fn take_all(
+        &mut self,
+        alloc: Global,
+        graph: &Graph,
+        rows: &Rows,
+        nodes: &[usize],
+        stamp: usize,
+    ) -> Result<Vec<u32>, AllocError>
         ensures { IfOk result (λ v. (w q : ℕ → Bool) → Leads true w graph.now → Transfers rows.now w q → q 0 ≡ true → AllPass w nodes.now → EachPasses q v.items) }
     {
         self.list = Vec::new(alloc);
@@ -100,7 +120,14 @@ const DONE: usize = usize::MAX;
 impl Settling {
     // Gives the nodes of a cycle, by one of them, the union of what they and those that lead to them have, unless it is
     // done.
-    fn settle_part(&mut self, alloc: Global, graph: &Graph, rows: &mut Rows, root: usize, part: usize) -> Result<(), AllocError>
+    fn settle_part(
+        &mut self,
+        alloc: Global,
+        graph: &Graph,
+        rows: &mut Rows,
+        root: usize,
+        part: usize,
+    ) -> Result<(), AllocError>
         ensures { OnOk result (GoesAlong graph.now rows.old rows.new) }
     {
         if !self.tags.has(root, 0) {
@@ -113,7 +140,9 @@ impl Settling {
             new: part,
         };
         let list = reach(alloc, graph, gather, root, &mut self.tags)?;
-        let numbers = self.numbers.take_all(alloc, graph, rows, list.as_slice(), part)?;
+        let numbers = self
+            .numbers
+            .take_all(alloc, graph, rows, list.as_slice(), part)?;
         let number = union_of(alloc, rows, numbers)?;
         let hand = Walk {
             backward: false,
