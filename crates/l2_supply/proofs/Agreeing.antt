@@ -63,6 +63,7 @@ seen_agrees f r q h = record { by_supply = λ p u. chosen (q u p) (h.by_supply p
     chosen : {p : Place} (c : Come _) → Chosen r p c → Chosen (and_then r (λ a. done (f a))) p (on_goes c (λ a. without (done (f a)) nil))
     chosen (Goes a p') c = record { choices = c.choices; comes = λ rest t. ap (λ x. on_go x (λ a. done (f a))) (c.comes rest t) }
     chosen (Ends e p') c = record { choices = c.choices; comes = λ rest t. ap (λ x. on_go x (λ a. done (f a))) (c.comes rest t) }
+
     supplied : (p : Place) (x : Result _) → IsSupplied (λ u. q u p) x → IsSupplied (λ u. seen f q u p) (on_go x (λ a. done (f a)))
     supplied p (Go a s) i = (i.0, ap (λ c. on_goes c (λ a. without (done (f a)) nil)) i.1)
     supplied p (Halt e s) i = λ k. let j = i k in (j.0, ap (λ c. on_goes c (λ a. without (done (f a)) nil)) j.1)
