@@ -63,9 +63,32 @@ seen_agrees f r q h = record { by_supply = λ p u. chosen (q u p) (h.by_supply p
     chosen : {p : Place} (c : Come _) → Chosen r p c → Chosen (and_then r (λ a. done (f a))) p (on_goes c (λ a. without (done (f a)) nil))
     chosen (Goes a p') c = record { choices = c.choices; comes = λ rest t. ap (λ x. on_go x (λ a. done (f a))) (c.comes rest t) }
     chosen (Ends e p') c = record { choices = c.choices; comes = λ rest t. ap (λ x. on_go x (λ a. done (f a))) (c.comes rest t) }
+
     supplied : (p : Place) (x : Result _) → IsSupplied (λ u. q u p) x → IsSupplied (λ u. seen f q u p) (on_go x (λ a. done (f a)))
     supplied p (Go a s) i = (i.0, ap (λ c. on_goes c (λ a. without (done (f a)) nil)) i.1)
     supplied p (Halt e s) i = λ k. let j = i k in (j.0, ap (λ c. on_goes c (λ a. without (done (f a)) nil)) j.1)
 
 pub run_agrees : {A : Type 0} (r x : Run A) (q : Supplied A) → ((s : State) → r s ≡ x s) → Agrees r q → Agrees x q
 run_agrees r x q e h = subst (λ y. Agrees y q) (λ i s. e s i) h
+
+-- what follows by a run that takes no choice, which looks at the store from before
+found_at : {A : Type 0} (f : Supply → Come A) (u : Supply) (c : Come A) (cs : List ℤ) (turns : ℕ) → f u ≡ c → IsSupplied f (result_of c cs turns)
+found_at f u (Goes a p) cs turns e = (u, e)
+found_at f u (Ends end p) cs turns e = λ k. (u, e)
+
+module _ {A B : Type 0} (r : Run A) (q : Supplied A) (f : Store → A → Run B) (none : (st : Store) (a : A) → TakesNone (f st a)) (same : Agrees r q) where
+  abbrev pub after : Supplied B
+  after u p = on_goes (q u p) (λ a. without (f p.store a) u)
+
+  chosen_after : (p : Place) (u : Supply) (c : Come A) → Chosen r p c → Chosen (λ s. on_go (r s) (f s.store)) p (on_goes c (λ a. without (f p.store a) u))
+  chosen_after p u (Goes a p') c = record { choices = c.choices; comes = λ rest t. ap (λ x. on_go x (f p.store)) (c.comes rest t) ∙ (none p.store a).same p' rest t }
+  chosen_after p u (Ends e p') c = record { choices = c.choices; comes = λ rest t. ap (λ x. on_go x (f p.store)) (c.comes rest t) }
+
+  supplied_after : (p : Place) (x : Result A) → IsSupplied (λ u. q u p) x → IsSupplied (λ u. after u p) (on_go x (f p.store))
+  supplied_after p (Go a s) i =
+      subst (IsSupplied (λ u. after u p)) (sym ((none p.store a).same (place_of s) s.choices s.turns))
+      (found_at (λ u. after u p) i.0 (come_of (f p.store a (at (place_of s) [] 0))) s.choices s.turns (ap (λ c. on_goes c (λ a. without (f p.store a) i.0)) i.1))
+  supplied_after p (Halt e s) i = λ k. let j = i k in (j.0, ap (λ c. on_goes c (λ a. without (f p.store a) j.0)) j.1)
+
+  pub after_agrees : Agrees (λ s. on_go (r s) (f s.store)) after
+  after_agrees = record { by_supply = λ p u. chosen_after p u (q u p) (same.by_supply p u); by_choices = λ s. supplied_after (place_of s) (r s) (same.by_choices s) }

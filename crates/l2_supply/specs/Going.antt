@@ -111,7 +111,7 @@ machine_of g = record { limit = limit_of g g.heads; tests = g.tests; types = g.t
 abbrev pub cut_with : {C F : Type 0} → ℕ → Supplied (Unit {0}) → (Bool → Supplied (C × Option F)) → Bool → Supplied (C × F)
 cut_with zero back q b = stops
 cut_with (suc n) back q b =
-    then_with with_choice (λ z. on_bool (int_eq z (pos 0)) (rounds_with (suc n) (q b)) (then_with back (λ u. later_with n q b)))
+    then_with with_choice (λ z. on_bool (int_eq z (pos 0)) (then_with (goes tt) (λ u. rounds_with (suc n) (q b))) (then_with back (λ u. later_with n q b)))
 
 abbrev pub loop_with : {C F : Type 0} → Setting → Heads → ℕ → (Bool → Supplied (C × Option F)) → Bool → Supplied (C × F)
 loop_with g (Short k) l q b = rounds_with k (then_with (without tally) (λ u. q b))
