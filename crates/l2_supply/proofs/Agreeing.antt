@@ -1,11 +1,9 @@
 -- Runs on lists of choices and by supplies agree where their parts do.
-use Rattle.std.proofs.Common.{◌≡◌, refl, sym, ap, subst, ◌∙◌, ℕ, zero, suc, ℤ, pos, Bool, true, false, List, [], ◌∷◌, ◌++◌, append_assoc, Option, Some, None}
-use Rattle.std.specs.Prelude.{◌||◌, ◌==◌}
-use Rattle.l2_runs.specs.declared.outcome.Outcome.TheVariants.{Ended, Stopped, Broken, OutOfChoices, OutOfTurns}
+use Rattle.std.proofs.Common.{◌≡◌, refl, sym, ap, subst, ◌∙◌, ℕ, ℤ, List, [], ◌∷◌, ◌++◌, append_assoc}
 use Rattle.l2_runs.specs.Store.{Store}
-use Rattle.l2_runs.specs.Runs.{State, End, Over, Fallen, Result, Go, Halt, Run, on_go, and_then, done, stop, either, take_choice, choose}
-use Rattle.l2_supply.specs.Going.{goes, seen}
-use Rattle.l2_supply.specs.Supply.{Supply, nil, one, two, number_of, left, right, Place, place_of, at, Come, Goes, Ends, Supplied, on_goes, then_with, come_of, without, with_choice, result_of, Chosen, IsFailure, IsSupplied, Agrees}
+use Rattle.l2_runs.specs.Runs.{State, Result, Go, Halt, Run, on_go, and_then, done, take_choice, choose}
+use Rattle.l2_supply.specs.Going.{seen}
+use Rattle.l2_supply.specs.Supply.{Supply, nil, one, two, number_of, left, right, Place, place_of, at, Come, Goes, Ends, Supplied, on_goes, then_with, come_of, without, with_choice, result_of, Chosen, IsSupplied, Agrees}
 
 -- ---- one after another
 

@@ -1,20 +1,20 @@
 -- Runs that take no choice.
-use Rattle.std.proofs.Common.{◌≡◌, refl, sym, ap, subst, ◌∙◌, ℕ, zero, suc, ℤ, pos, Bool, true, false, List, [], ◌∷◌, Option, Some, None}
+use Rattle.std.proofs.Common.{◌≡◌, refl, sym, ap, ◌∙◌, ℕ, ℤ, Bool, true, false, List, [], ◌∷◌, Option, Some, None}
 use Rattle.std.specs.Prelude.{◌||◌, ◌==◌}
-use Rattle.l2_runs.specs.declared.outcome.Outcome.TheVariants.{Ended, Stopped, Broken}
+use Rattle.l2_runs.specs.declared.outcome.Outcome.TheVariants.{Broken}
 use Rattle.l2_runs.specs.declared.cells.CellValue.{CellValue}
 use Rattle.l2_runs.specs.declared.member.Member.{Member}
 use Rattle.l2_runs.specs.Members.{is_in}
-use Rattle.l2_runs.specs.Store.{Store, Address}
-use Rattle.l2_runs.specs.Runs.{State, End, Over, Fallen, Result, Go, Halt, Run, on_go, and_then, done, over, stop, either, read, write, enliven, bury, demand, check}
-use Rattle.l2_runs.specs.Loops.{Test, events, or_events, tally}
+use Rattle.l2_runs.specs.Store.{Store}
+use Rattle.l2_runs.specs.Runs.{State, End, Over, Fallen, Result, Go, Halt, Run, on_go, and_then, done, over, stop, either, read, write, demand, check}
+use Rattle.l2_runs.specs.Loops.{Test, events, or_events}
 use Rattle.l2_runs.specs.Back.{on_member}
 use Rattle.l2_code.specs.declared.action.Action.{Action}
 use Rattle.l2_code.specs.declared.action.Action.TheVariants as action
 use Rattle.l2_code.specs.declared.action.Computation.{Computation}
 use Rattle.l2_code.specs.Values.{Types, Temps, with_temp, operand_value, is_true, cell_of, compute}
-use Rattle.l2_code.specs.Machine.{Setting, Way, On, Out, or_stuck, computed, act}
-use Rattle.l2_supply.specs.Supply.{Place, place_of, at, Come, Goes, Ends, come_of, result_of}
+use Rattle.l2_code.specs.Machine.{Setting, On, Out, or_stuck, computed, act}
+use Rattle.l2_supply.specs.Supply.{place_of, at, come_of, result_of}
 use Rattle.l2_supply.specs.Going.{passing}
 use Rattle.l2_supply.proofs.Agreeing.{TakesNone}
 

@@ -1,16 +1,15 @@
 -- Code does the same on lists of choices and by supplies.
-use Rattle.std.proofs.Common.{◌≡◌, refl, sym, ap, subst, ◌∙◌, ℕ, zero, suc, ℤ, pos, Bool, true, false, List, [], ◌∷◌, Option, Some, None}
+use Rattle.std.proofs.Common.{◌≡◌, refl, ℕ, zero, suc, pos, Bool, true, false, List, [], ◌∷◌, Option, Some, None}
 use Rattle.std.specs.Ordering.{int_eq}
 use Rattle.l2_bits.specs.Values.{wrap}
 use Rattle.l2_runs.specs.declared.cells.CellType.{CellType}
 use Rattle.l2_runs.specs.declared.cells.CellType.TheVariants.{Integer, Pointer}
-use Rattle.l2_runs.specs.declared.cells.CellValue.{CellValue}
 use Rattle.l2_runs.specs.declared.cells.CellValue.TheVariants.{Number}
 use Rattle.l2_runs.specs.declared.member.Member.{Member}
 use Rattle.l2_runs.specs.declared.outcome.Outcome.TheVariants.{Stopped}
 use Rattle.l2_runs.specs.Fits.{Layout}
 use Rattle.l2_runs.specs.Store.{Store}
-use Rattle.l2_runs.specs.Runs.{State, Result, Go, Halt, Over, Run, on_go, and_then, done, stop, either, choose, write}
+use Rattle.l2_runs.specs.Runs.{Result, Go, Halt, Over, Run, on_go, and_then, done, stop, either, choose, write}
 use Rattle.l2_runs.specs.Loops as loops
 use Rattle.l2_runs.specs.Loops.{Tests, Turn, tested, or_events, rounds, behind, tally, copies, later_copies, cut, limited, loop_of, or_next, or_stop}
 use Rattle.l2_runs.specs.Back.{pointer_of, on_member, any_value, scatter_cells, scatter, back}
@@ -18,11 +17,10 @@ use Rattle.l2_code.specs.declared.action.Action.{Action}
 use Rattle.l2_code.specs.declared.action.Action.TheVariants as action
 use Rattle.l2_code.specs.Trees.{Node, Do, Block, Loop, Nodes, none, more}
 use Rattle.l2_code.specs.Values.{Temps, with_temp}
-use Rattle.l2_code.specs.Machine as machine
 use Rattle.l2_code.specs.Machine.{Way, On, Out, act, leave, close, follow, code_loop, node, nodes}
-use Rattle.l2_supply.specs.Supply.{Supply, Supplied, then_with, without, with_choice, Agrees}
-use Rattle.l2_supply.specs.Going.{goes, stops, seen, on_bool, tested_with, next_with, stop_with, rounds_with, later_with, any_with, cells_with, scatter_with, passing, back_with, Heads, Short, Cut, Setting, limit_of, machine_of, cut_with, loop_with, act_with, follow_with, node_with, nodes_with, RunsAgree}
-use Rattle.l2_supply.proofs.Agreeing.{then_agrees, choice_agrees, TakesNone, without_agrees, seen_agrees, run_agrees, after_agrees}
+use Rattle.l2_supply.specs.Supply.{Supplied, then_with, without, with_choice, Agrees}
+use Rattle.l2_supply.specs.Going.{goes, stops, seen, on_bool, tested_with, next_with, stop_with, rounds_with, later_with, any_with, cells_with, scatter_with, passing, back_with, Heads, Short, Cut, Setting, limit_of, machine_of, cut_with, loop_with, act_with, follow_with, node_with, nodes_with}
+use Rattle.l2_supply.proofs.Agreeing.{then_agrees, choice_agrees, without_agrees, seen_agrees, run_agrees, after_agrees}
 use Rattle.l2_supply.proofs.Plain.{plain_done, plain_stop, plain_or_events, plain_passing, plain_member, plain_act}
 
 goes_agree : {A : Type 0} (a : A) → Agrees (done a) (goes a)
@@ -61,9 +59,9 @@ module _ {C F : Type 0} where
     cut_agree zero back back_to h b c = run_agrees stop (cut zero back turn b c) stops (λ s. refl) stops_agree
     cut_agree (suc n) back back_to h b c =
         then_agrees choose with_choice _ _ choice_agrees
-        (λ z. either_agree (int_eq z (pos 0)) (copies (suc n) turn b c) (and_then back (λ u. later_copies n turn b c)) (then_with (goes tt) (λ u. rounds_with (suc n) (q b))) (then_with back_to (λ u. later_with n q b))
-        (run_agrees (and_then (done tt) (λ u. copies (suc n) turn b c)) _ _ (λ s. refl)
-        (then_agrees (done tt) (goes tt) (λ u. copies (suc n) turn b c) (λ u. rounds_with (suc n) (q b)) (goes_agree tt) (λ u. rounds_agree (suc n) (turn b) (q b) (same b) c)))
+        (λ z. either_agree (int_eq z (pos 0)) (copies (suc n) turn b c) (and_then back (λ u. later_copies n turn b c)) (then_with (goes (tt {0})) (λ u. rounds_with (suc n) (q b))) (then_with back_to (λ u. later_with n q b))
+        (run_agrees (and_then (done (tt {0})) (λ u. copies (suc n) turn b c)) _ _ (λ s. refl)
+        (then_agrees (done (tt {0})) (goes (tt {0})) (λ u. copies (suc n) turn b c) (λ u. rounds_with (suc n) (q b)) (goes_agree (tt {0})) (λ u. rounds_agree (suc n) (turn b) (q b) (same b) c)))
         (then_agrees back back_to (λ u. later_copies n turn b c) (λ u. later_with n q b) h (λ u. later_agree n b c)))
 
 -- ---- back starts
