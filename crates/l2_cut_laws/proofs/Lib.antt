@@ -1,0 +1,2 @@
+pub mod TreeAgreeing
+pub mod TreeMeeting
