@@ -8,3 +8,4 @@ pub mod Scatters
 pub mod Agreeing
 pub mod Meeting
 pub mod Bounds
+pub mod Pointing
