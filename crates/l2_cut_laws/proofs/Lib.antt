@@ -1,2 +1,4 @@
 pub mod TreeAgreeing
 pub mod TreeMeeting
+pub mod Tidy
+pub mod TreeKept
