@@ -2,3 +2,4 @@ pub mod TreeAgreeing
 pub mod TreeMeeting
 pub mod Tidy
 pub mod TreeKept
+pub mod TreeFrames
