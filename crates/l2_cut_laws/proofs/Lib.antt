@@ -3,3 +3,4 @@ pub mod TreeMeeting
 pub mod Tidy
 pub mod TreeKept
 pub mod TreeFrames
+pub mod TreeFollowing

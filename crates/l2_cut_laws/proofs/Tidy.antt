@@ -2,6 +2,7 @@
 use Rattle.std.specs.Prelude.{◌≡◌, ℕ, Bool, false, List, [], ◌∷◌, ◌++◌}
 use Rattle.l2_run_laws.proofs.LoopFrames.{Among}
 use Rattle.l2_program.specs.Checked.{CheckedTree, Block, Declare, Static, Initialise, Label, Evaluate, If, IfElse, While, Return, CheckedTrees, none, more}
+use Rattle.l2_meaning.specs.Changes.{changes_of, changes_in}
 
 -- the object whose lifetime an item begins
 abbrev pub opened : CheckedTree → List ℕ
@@ -63,3 +64,21 @@ abbrev mutual
   pub AreTidy : (ℕ → Bool) → CheckedTrees → Type 0
   AreTidy is_static none = Unit {0}
   AreTidy is_static (more s rest) = IsTidy is_static s × ((n : ℕ) → Among (all_dying rest) n → Among (opened s) n → ⊥) × AreTidy is_static rest
+
+abbrev mutual
+  -- each loop of a statement changes these objects at most
+  pub HasMods : (ℕ → List ℕ) → CheckedTree → Type 0
+  HasMods mods (Block all) = HaveMods mods all
+  HasMods mods (Declare n) = Unit {0}
+  HasMods mods (Static n) = Unit {0}
+  HasMods mods (Initialise n e) = Unit {0}
+  HasMods mods (Label n) = Unit {0}
+  HasMods mods (Evaluate e) = Unit {0}
+  HasMods mods (If e s) = HasMods mods s
+  HasMods mods (IfElse e s t) = HasMods mods s × HasMods mods t
+  HasMods mods (While l named e s) = ((n : ℕ) → Among (changes_of e ++ changes_in s) n → Among (mods l) n) × HasMods mods s
+  HasMods mods (Return e) = Unit {0}
+
+  pub HaveMods : (ℕ → List ℕ) → CheckedTrees → Type 0
+  HaveMods mods none = Unit {0}
+  HaveMods mods (more s rest) = HasMods mods s × HaveMods mods rest

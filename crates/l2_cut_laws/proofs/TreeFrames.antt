@@ -129,7 +129,7 @@ module _ (cells : Layout) (sets : ℕ → Member → Bool) (tests : Tests) (is_m
   fill_stay n f [] h = finished tt
   fill_stay n f (t ∷ types) h = on (fresh_stay t) (λ v. on (write_frames Changed (record { object = n; offset = f }) v h) (λ u. fill_stay n (suc f) types h))
 
-  value_stay : {D : ℕ → Type 0} (e : TypedTree) → ((n : ℕ) → Among (changes_of e) n → Changed n) → Stays D (value here true e)
+  pub value_stay : {D : ℕ → Type 0} (e : TypedTree) → ((n : ℕ) → Among (changes_of e) n → Changed n) → Stays D (value here true e)
   value_stay (Constant ty v) h = finished _
   value_stay (Choice ty) h = on (choose_frames Changed) (λ c. finished _)
   value_stay (Read ty (Object n)) h = on (read_frames Changed (first_of n)) (λ v. finished (v ∷ []))
