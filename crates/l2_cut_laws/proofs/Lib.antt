@@ -4,3 +4,4 @@ pub mod Tidy
 pub mod TreeKept
 pub mod TreeFrames
 pub mod TreeFollowing
+pub mod TreeBounding
