@@ -137,7 +137,7 @@ module _ {A : Type 0} (R : A → A → Ordering) (o : IsTotalOrder R) (equal : (
 
 -- ---- numbers
 
-equal_numbers : (x y : ℕ) → nat_cmp x y ≡ Equal → x ≡ y
+pub equal_numbers : (x y : ℕ) → nat_cmp x y ≡ Equal → x ≡ y
 equal_numbers x y e = subst (λ r. MatchOrdering r (x < y) (x ≡ y) (y < x)) e (ranks x y)
 
 in_from_is_in : (n : ℕ) (ns : List ℕ) → IsIn n ns → In n ns
