@@ -5,3 +5,4 @@ pub mod TreeKept
 pub mod TreeFrames
 pub mod TreeFollowing
 pub mod TreeBounding
+pub mod LawfulTrees
