@@ -6,3 +6,4 @@ pub mod TreeFrames
 pub mod TreeFollowing
 pub mod TreeBounding
 pub mod LawfulTrees
+pub mod Starts
