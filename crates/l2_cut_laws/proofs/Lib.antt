@@ -7,3 +7,4 @@ pub mod TreeFollowing
 pub mod TreeBounding
 pub mod LawfulTrees
 pub mod Starts
+pub mod PointFacts
