@@ -8,3 +8,4 @@ pub mod TreeBounding
 pub mod LawfulTrees
 pub mod Starts
 pub mod PointFacts
+pub mod RankNumbers
