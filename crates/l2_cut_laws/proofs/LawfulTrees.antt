@@ -83,7 +83,7 @@ split [] b n f g h = g h
 split (m ∷ a) b n f g (inl e) = f (inl e)
 split (m ∷ a) b n f g (inr h) = split a b n (λ x. f (inr x)) g h
 
-widen : (a b c d : List ℕ) (n : ℕ) → (Among a n → Among c n) → (Among b n → Among d n) → Among (a ++ b) n → Among (c ++ d) n
+pub widen : (a b c d : List ℕ) (n : ℕ) → (Among a n → Among c n) → (Among b n → Among d n) → Among (a ++ b) n → Among (c ++ d) n
 widen [] b c d n f g h = among_right c d n (g h)
 widen (m ∷ a) b c d n f g (inl e) = among_left c d n (f (inl e))
 widen (m ∷ a) b c d n f g (inr h) = widen a b c d n (λ x. f (inr x)) g h

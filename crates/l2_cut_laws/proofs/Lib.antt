@@ -3,9 +3,9 @@ pub mod TreeMeeting
 pub mod Tidy
 pub mod TreeKept
 pub mod TreeFrames
+pub mod LawfulTrees
 pub mod TreeFollowing
 pub mod TreeBounding
-pub mod LawfulTrees
 pub mod Starts
 pub mod PointFacts
 pub mod RankNumbers

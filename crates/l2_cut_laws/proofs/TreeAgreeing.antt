@@ -1,5 +1,5 @@
 -- Trees with more tests do the same, or fall.
-use Rattle.std.proofs.Common.{ℕ, Bool, Option, Some, None}
+use Rattle.std.proofs.Common.{ℕ, Bool, true, List, [], ◌∷◌, Option, Some, None}
 use Rattle.std.specs.Prelude.{not}
 use Rattle.l2_runs.specs.Fits.{Layout}
 use Rattle.l2_runs.specs.Runs.{Run, and_then, done, enliven, bury_all, check}
@@ -7,6 +7,8 @@ use Rattle.l2_runs.specs.Loops.{Limit, Tests}
 use Rattle.l2_runs.specs.Operators.{unary, binary, unary_overflows, binary_overflows}
 use Rattle.l2_run_laws.proofs.Agreeing.{Agrees, then_agrees, same_agrees, either_agrees, TestsAgree, loop_agrees}
 use Rattle.l2_program.specs.Checked.{Object, TypedTree, Constant, Choice, Read, Unary, Binary, Convert, Assign, Assert, CheckedTree, Block, Declare, Static, Initialise, Label, Evaluate, If, IfElse, While, Return, CheckedTrees, none, more}
+use Rattle.l2_program.specs.Programs.{FunctionTree}
+use Rattle.l2_meaning.specs.Execution.{declare_all, enter}
 use Rattle.l2_meaning.specs.Meaning.{Value, Ending, Next, Broke, Continued, Returned, Jumping, Calls, Setting, number, number_of, holds, put, first_of, declare, value, declared, past, or_rest, to_turn, while_turn, tree_loop, act, act_all}
 
 module _ (Watched : ℕ → ℕ → Type 0) (more_tests fewer_tests : Tests) (tests_agree : TestsAgree Watched more_tests fewer_tests) (limit : Limit) (is_main : Bool) (cells : Layout) (c d : Calls) where
@@ -70,3 +72,11 @@ module _ (Watched : ℕ → ℕ → Type 0) (more_tests fewer_tests : Tests) (te
     all_agrees y (Some l) none = same y (done (Jumping l))
     all_agrees y None (more s rest) = on (act_agrees y s) (rest_agrees y (λ from. act_all with_more y from rest) (λ from. act_all with_fewer y from rest) (λ from. all_agrees y from rest))
     all_agrees y (Some l) (more s rest) = all_agrees y (past l s) rest
+
+  params_agree : (ns : List ℕ) → Does true (declare_all with_more ns) (declare_all with_fewer ns)
+  params_agree [] = same true (done tt)
+  params_agree (n ∷ ns) = on (same true (declare with_fewer n)) (λ u. params_agree ns)
+
+  pub main_agrees : (f : Option FunctionTree) → Does true (enter with_more f) (enter with_fewer f)
+  main_agrees None = same true (done tt)
+  main_agrees (Some f) = on (params_agree f.parameters) (λ u. on (act_agrees true f.body) (λ e. same true (done tt)))

@@ -19,11 +19,12 @@ use Rattle.l2_run_laws.proofs.Pointing.{IsSound}
 use Rattle.l2_run_laws.proofs.Bounds.{Bounded, then_bounded, more_suffice, Free, free, then_free, done_free, ended_free, choose_free, read_free, write_free, enliven_free, bury_free, check_free, either_free, either_bounded, budget, budget_is, loop_bounded}
 use Rattle.l2_program.specs.Checked.{Object, TypedTree, Constant, Choice, Read, Unary, Binary, Convert, Assign, Assert, CheckedTree, Block, Declare, Static, Initialise, Label, Evaluate, If, IfElse, While, Return, CheckedTrees, none, more}
 use Rattle.l2_meaning.specs.Meaning.{Value, Ending, Next, Broke, Continued, Returned, Jumping, Calls, Setting, number, number_of, holds, write_cells, put, first_of, fresh, fill, declare, value, declared, past, or_rest, to_turn, while_turn, tree_loop, act, act_all}
+use Rattle.l2_meaning.specs.Execution.{declare_all}
 use Rattle.l2_meaning.specs.Pointing.{IsTakenIn, StatementIsTakenIn, AreTakenIn, has_pointer}
-use Rattle.l2_meaning.specs.Lawful.{Listing, IsTyped, IsTypedStatement, AreTyped, HasChecks, StatementHasChecks, HaveChecks}
+use Rattle.l2_meaning.specs.Lawful.{Listing, IsTyped, IsTypedStatement, AreTyped, HasChecks, StatementHasChecks, HaveChecks, AreNotStatic}
 use Rattle.l2_cuts.specs.Turns.{turns_in, all_turns_in}
 use Rattle.l2_cut_laws.proofs.Tidy.{IsTidy, AreTidy}
-use Rattle.l2_cut_laws.proofs.TreeKept.{real, value_sound, act_sound, all_sound}
+use Rattle.l2_cut_laws.proofs.TreeKept.{real, value_sound, act_sound, all_sound, declare_sound}
 
 module _ (cells : Layout) (sets : ℕ → Member → Bool) (tests : Tests) (is_main : Bool) (calls : Calls) (is_static : ℕ → Bool) (first : (n : ℕ) → is_static n ≡ false → has_pointer (cells n) ≡ true → sets n Invalid ≡ true) (g : Listing) (result : List CellType) (forms : ℕ → ℕ) (rank : ℕ → Store → ℕ) (lower : (l : ℕ) (a b : Store) → IsSound sets cells a → IsSound sets cells b → HoldAll (tests true l) a b → rank l b < rank l a) (below : (l : ℕ) (a : Store) → IsSound sets cells a → rank l a < 2 ^ (66 * forms l)) where
   abbrev here : Setting
@@ -140,3 +141,20 @@ module _ (cells : Layout) (sets : ℕ → Member → Bool) (tests : Tests) (is_m
         then_bounded (act_sound cells sets tests is_main calls is_static first g result s t.0 c.0 h.0 d.0) (act_bounded s t.0 c.0 h.0 d.0)
         (λ e p. rest_bounded (all_turns_in forms rest) (λ from. act_all here true from rest) (λ from. all_bounded from rest t.1 c.1 h.1 d.2) e)
     all_bounded (Some l) (more s rest) t c h d = more_suffice (all_turns_in forms rest) (turns_in forms s + all_turns_in forms rest) (omega arith) (all_bounded (past l s) rest t.1 c.1 h.1 d.2)
+
+  -- ---- main
+
+  params_kept : (ns : List ℕ) → AreNotStatic is_static ns → Kept Sound Sound Always (declare_all here ns)
+  params_kept [] h = done_kept tt tt
+  params_kept (n ∷ ns) h = then_kept (declare_sound cells sets tests is_main calls is_static first g result n h.0) (λ u q. params_kept ns h.1)
+
+  params_free : (ns : List ℕ) → Free (declare_all here ns)
+  params_free [] = record { by = λ n s. (omega arith, omega arith) }
+  params_free (n ∷ ns) = then_free (declare_free n) (λ u. params_free ns)
+
+  -- the body of `main` behind its parameters
+  pub main_bounded : (ns : List ℕ) (x : CheckedTree) → AreNotStatic is_static ns → IsTypedStatement cells result x → StatementHasChecks g x → StatementIsTakenIn sets x → IsTidy is_static x →
+      Bounded Sound (turns_in forms x) (and_then (declare_all here ns) (λ u. and_then (act here true x) (λ e. done {A = Unit {0}} tt)))
+  main_bounded ns x n t c h d =
+      begins (turns_in forms x) (params_kept ns n) (params_free ns)
+      (λ u q. ends (turns_in forms x) (act_sound cells sets tests is_main calls is_static first g result x t c h d) (act_bounded x t c h d) (λ e. record { by = λ n s. (omega arith, omega arith) }))

@@ -1,5 +1,5 @@
 -- Cut runs of trees under the stronger tests go as those under two others, or one of these falls.
-use Rattle.std.proofs.Common.{ℕ, Bool, true, false, List, Option, Some, None}
+use Rattle.std.proofs.Common.{ℕ, Bool, true, false, List, [], ◌∷◌, Option, Some, None}
 use Rattle.std.specs.Prelude.{not}
 use Rattle.l2_runs.specs.Store.{Store}
 use Rattle.l2_runs.specs.Fits.{Layout}
@@ -9,7 +9,9 @@ use Rattle.l2_runs.specs.Operators.{unary, binary, unary_overflows, binary_overf
 use Rattle.l2_run_laws.specs.Watches.{HoldAll}
 use Rattle.l2_run_laws.proofs.Meeting.{Meets, then_meets, same_meets, either_meets, TestsMeet, loop_meets}
 use Rattle.l2_program.specs.Checked.{Object, TypedTree, Constant, Choice, Read, Unary, Binary, Convert, Assign, Assert, CheckedTree, Block, Declare, Static, Initialise, Label, Evaluate, If, IfElse, While, Return, CheckedTrees, none, more}
-use Rattle.l2_meaning.specs.Meaning.{Value, Ending, Next, Broke, Continued, Returned, Jumping, Calls, Setting, number, number_of, holds, put, first_of, value, declared, past, or_rest, to_turn, while_turn, tree_loop, act, act_all}
+use Rattle.l2_program.specs.Programs.{FunctionTree}
+use Rattle.l2_meaning.specs.Execution.{declare_all, enter}
+use Rattle.l2_meaning.specs.Meaning.{Value, Ending, Next, Broke, Continued, Returned, Jumping, Calls, Setting, number, number_of, holds, put, first_of, declare, value, declared, past, or_rest, to_turn, while_turn, tree_loop, act, act_all}
 
 module _ (k : ℕ) (br bp bq : ℕ → Run (Unit {0})) (tr tp tq : Tests) (back : (l : ℕ) → Meets (br l) (bp l) (bq l)) (counted : TestsMeet (tr true) (tp true) (tq true)) (stronger : (l : ℕ) (a b : Store) → HoldAll (tr false l) a b → HoldAll (tp false l) a b × HoldAll (tq false l) a b) (is_main : Bool) (cells : Layout) (cr cp cq : Calls) where
   abbrev r : Setting
@@ -66,3 +68,11 @@ module _ (k : ℕ) (br bp bq : ℕ → Run (Unit {0})) (tr tp tq : Tests) (back 
     all_meet y (Some l) none = same_meets (done (Jumping l))
     all_meet y None (more s rest) = then_meets (act_meets y s) (rest_meets (λ from. act_all r y from rest) (λ from. act_all p y from rest) (λ from. act_all q y from rest) (λ from. all_meet y from rest))
     all_meet y (Some l) (more s rest) = all_meet y (past l s) rest
+
+  params_meet : (ns : List ℕ) → Meets (declare_all r ns) (declare_all p ns) (declare_all q ns)
+  params_meet [] = same_meets (done tt)
+  params_meet (n ∷ ns) = then_meets (same_meets (declare r n)) (λ u. params_meet ns)
+
+  pub main_meets : (f : Option FunctionTree) → Meets (enter r f) (enter p f) (enter q f)
+  main_meets None = same_meets (done tt)
+  main_meets (Some f) = then_meets (params_meet f.parameters) (λ u. then_meets (act_meets true f.body) (λ e. same_meets (done tt)))
