@@ -9,3 +9,4 @@ pub mod TreeBounding
 pub mod Starts
 pub mod PointFacts
 pub mod RankNumbers
+pub mod Laws

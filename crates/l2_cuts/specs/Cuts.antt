@@ -52,13 +52,17 @@ IsFallen (Fallen l row) = Unit {0}
 abbrev pub cut_end : ProgramTree → (ℕ → Member → Bool) → ℕ → List LoopPoint → Tests → List ℤ → End
 cut_end p sets k q tests choices = (exec p (cut_limit p sets k q) tests choices 0).end
 
+-- how a cut run ends that tests the rows alone
+abbrev pub row_end : ProgramTree → (ℕ → Member → Bool) → ℕ → List LoopPoint → List ℤ → End
+row_end p sets k q choices = cut_end p sets k q (alone (rows_at q)) choices
+
 -- no cut run fails a row: the rows hold at the head of each loop whenever a turn has ended
 abbrev pub Infers : ProgramTree → (ℕ → Member → Bool) → ℕ → List LoopPoint → Type 0
-Infers p sets k q = (choices : List ℤ) → ¬ IsFallen (cut_end p sets k q (alone (rows_at q)) choices)
+Infers p sets k q = (choices : List ℤ) → ¬ IsFallen (row_end p sets k q choices)
 
 -- and none breaks a check
 abbrev pub Proves : ProgramTree → (ℕ → Member → Bool) → ℕ → List LoopPoint → Type 0
-Proves p sets k q = Infers p sets k q × ((choices : List ℤ) → ¬ IsBroken (cut_end p sets k q (alone (rows_at q)) choices))
+Proves p sets k q = Infers p sets k q × ((choices : List ℤ) → ¬ IsBroken (row_end p sets k q choices))
 
 -- no cut run fails a row, and each turn that counts is let pass
 abbrev pub TurnsPass : ProgramTree → (ℕ → Member → Bool) → ℕ → List LoopPoint → (ℕ → Store → Store → Bool) → Type 0
