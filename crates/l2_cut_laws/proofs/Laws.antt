@@ -41,31 +41,31 @@ use Rattle.l2_cut_laws.proofs.PointFacts.{rows_start, stronger_starts, meet_test
 
 -- ---- reports
 
-abbrev start : ProgramTree → List ℤ → ℕ → State
+abbrev pub start : ProgramTree → List ℤ → ℕ → State
 start p cs t = record { store = first_store p; choices = cs; turns = t; arrivals = 0 }
 
-end_of : (cs : List ℤ) (t : ℕ) (x : Result (Unit {0})) (e : End) → EndsIn x e → (report cs t x).end ≡ e
+pub end_of : (cs : List ℤ) (t : ℕ) (x : Result (Unit {0})) (e : End) → EndsIn x e → (report cs t x).end ≡ e
 end_of cs t (Go u s) e h = absurd h
 end_of cs t (Halt f s) e h = h
 
-ends_in : (cs : List ℤ) (t : ℕ) (x : Result (Unit {0})) (e : End) → (Over Ended ≡ e → ⊥) → (report cs t x).end ≡ e → EndsIn x e
+pub ends_in : (cs : List ℤ) (t : ℕ) (x : Result (Unit {0})) (e : End) → (Over Ended ≡ e → ⊥) → (report cs t x).end ≡ e → EndsIn x e
 ends_in cs t (Go u s) e other h = absurd (other h)
 ends_in cs t (Halt f s) e other h = h
 
-has_fallen : (cs : List ℤ) (t : ℕ) (x : Result (Unit {0})) → meeting.HasFallen x → IsFallen (report cs t x).end
+pub has_fallen : (cs : List ℤ) (t : ℕ) (x : Result (Unit {0})) → meeting.HasFallen x → IsFallen (report cs t x).end
 has_fallen cs t (Go u s) h = absurd h
 has_fallen cs t (Halt (Over o) s) h = absurd h
 has_fallen cs t (Halt (Fallen l row) s) h = tt
 
-fell : (cs : List ℤ) (t : ℕ) (x : Result (Unit {0})) → IsFallen (report cs t x).end → (l : ℕ) × (row : ℕ) × EndsIn x (Fallen l row)
+pub fell : (cs : List ℤ) (t : ℕ) (x : Result (Unit {0})) → IsFallen (report cs t x).end → (l : ℕ) × (row : ℕ) × EndsIn x (Fallen l row)
 fell cs t (Go u s) h = absurd h
 fell cs t (Halt (Over o) s) h = absurd h
 fell cs t (Halt (Fallen l row) s) h = (l, row, refl)
 
-is_fallen : (e : End) (l row : ℕ) → e ≡ Fallen l row → IsFallen e
+pub is_fallen : (e : End) (l row : ℕ) → e ≡ Fallen l row → IsFallen e
 is_fallen e l row h = subst IsFallen (sym h) tt
 
-broke : (cs : List ℤ) (t : ℕ) (x : Result (Unit {0})) → IsBroken (report cs t x).end → (c : ℕ) × EndsIn x (Over (Broken c))
+pub broke : (cs : List ℤ) (t : ℕ) (x : Result (Unit {0})) → IsBroken (report cs t x).end → (c : ℕ) × EndsIn x (Over (Broken c))
 broke cs t (Go u s) h = absurd h
 broke cs t (Halt (Over Ended) s) h = absurd h
 broke cs t (Halt (Over Stopped) s) h = absurd h
@@ -74,7 +74,7 @@ broke cs t (Halt (Over OutOfChoices) s) h = absurd h
 broke cs t (Halt (Over OutOfTurns) s) h = absurd h
 broke cs t (Halt (Fallen l row) s) h = absurd h
 
-is_broken : (e : End) (c : ℕ) → e ≡ Over (Broken c) → IsBroken e
+pub is_broken : (e : End) (c : ℕ) → e ≡ Over (Broken c) → IsBroken e
 is_broken e c h = subst IsBroken (sym h) tt
 
 -- ---- what a matching cut run does
@@ -92,19 +92,19 @@ at_fallen cut st l row (Halt e s) (inr m) h = inr (subst (Meets cut st) h m)
 -- ---- a lawful program
 
 module _ (p : ProgramTree) (lawful : IsLawful p) (sets : ℕ → Member → Bool) (closed : AreClosed p sets) where
-  abbrev f : FunctionTree
+  abbrev pub f : FunctionTree
   f = lawful.main_function
 
-  abbrev g : Listing
+  abbrev pub g : Listing
   g = record { checks = p.checks; is_reached = lawful.main == lawful.main; overflow = lawful.overflow }
 
-  main : IsLawfulFunction p g lawful.main f
+  pub main : IsLawfulFunction p g lawful.main f
   main = lawful.functions lawful.main f lawful.has_main
 
   objects_distinct : AreDistinct (f.parameters ++ declared_in f.body)
   objects_distinct = subst AreDistinct main.objects (numbers_distinct (λ (o : ObjectInfo). o.function == lawful.main) 1 p.objects)
 
-  body_tidy : IsTidy (statics_of p) f.body
+  pub body_tidy : IsTidy (statics_of p) f.body
   body_tidy = tidy (statics_of p) f.parameters f.body main.scoped (distinct_right f.parameters (declared_in f.body) objects_distinct)
 
   apart : AreApart f.parameters (dying f.body)
@@ -119,10 +119,10 @@ module _ (p : ProgramTree) (lawful : IsLawful p) (sets : ℕ → Member → Bool
       local (m ∷ ns) h n (inr a) = local ns h.1 n a
 
   -- what holds of the function `main` holds of the program's
-  of_main : (P : Option FunctionTree → Type 0) → P (Some f) → P (main_among p.names p.functions)
+  pub of_main : (P : Option FunctionTree → Type 0) → P (Some f) → P (main_among p.names p.functions)
   of_main P h = subst P (sym lawful.is_main) h
 
-  to_main : (P : Option FunctionTree → Type 0) → P (main_among p.names p.functions) → P (Some f)
+  pub to_main : (P : Option FunctionTree → Type 0) → P (main_among p.names p.functions) → P (Some f)
   to_main P h = subst P lawful.is_main h
 
   module _ (k : ℕ) (q : List LoopPoint) (tests : Tests) where
@@ -153,14 +153,14 @@ module _ (p : ProgramTree) (lawful : IsLawful p) (sets : ℕ → Member → Bool
 
   -- ---- laws for one more than k copies
 
-  breaks : (k : ℕ) (q : List LoopPoint) (cs : List ℤ) (t c : ℕ) → (exec p Real no_tests cs t).end ≡ Over (Broken c) → (ds : List ℤ) × (IsFallen (row_end p sets (suc k) q ds) ⊎ (row_end p sets (suc k) q ds ≡ Over (Broken c)))
+  pub breaks : (k : ℕ) (q : List LoopPoint) (cs : List ℤ) (t c : ℕ) → (exec p Real no_tests cs t).end ≡ Over (Broken c) → (ds : List ℤ) × (IsFallen (row_end p sets (suc k) q ds) ⊎ (row_end p sets (suc k) q ds ≡ Over (Broken c)))
   breaks k q cs t c h =
       elim (at_broken (cuts k q no_tests) (first_store p) c (enter (setting_of p Real no_tests) (Some f) (start p cs t)) ((follows k q no_tests).by (start p cs t) ready) (real_run k q no_tests cs t (Over (Broken c)) (λ e. cc) h)) [
         | inl x ↦ (let r = falls k q no_tests x in (r.0, inl r.1))
         | inr x ↦ (let r = halts k q no_tests false (Over (Broken c)) x in (r.0, inr r.1))
       ]
 
-  fails : (k : ℕ) (q : List LoopPoint) (tests : Tests) (cs : List ℤ) (t l row : ℕ) → Infers p sets (suc k) q → (exec p Real tests cs t).end ≡ Fallen l row → (ds : List ℤ) × (cut_end p sets (suc k) q (with_watches (rows_at q) (tests true)) ds ≡ Fallen l row)
+  pub fails : (k : ℕ) (q : List LoopPoint) (tests : Tests) (cs : List ℤ) (t l row : ℕ) → Infers p sets (suc k) q → (exec p Real tests cs t).end ≡ Fallen l row → (ds : List ℤ) × (cut_end p sets (suc k) q (with_watches (rows_at q) (tests true)) ds ≡ Fallen l row)
   fails k q tests cs t l row none h =
       elim (at_fallen (cuts k q tests) (first_store p) l row (enter (setting_of p Real tests) (Some f) (start p cs t)) ((follows k q tests).by (start p cs t) ready) (real_run k q tests cs t (Fallen l row) (λ e. cc) h)) [
         | inl x ↦ (let r = falls k q tests x in absurd (none r.0 r.1))

@@ -10,3 +10,4 @@ pub mod Starts
 pub mod PointFacts
 pub mod RankNumbers
 pub mod Laws
+pub mod MoreLaws

@@ -8,7 +8,7 @@ use Rattle.l2_runs.specs.Store.{Store}
 use Rattle.l2_runs.specs.Runs.{End, Over, Fallen}
 use Rattle.l2_runs.specs.Loops.{Limit, Cut, Test, Tests}
 use Rattle.l2_runs.specs.Back.{back}
-use Rattle.l2_run_laws.specs.Watches.{alone, with_watches}
+use Rattle.l2_run_laws.specs.Watches.{alone, with_watches, no_rows}
 use Rattle.l2_program.specs.declared.program.LoopInfo.{LoopInfo}
 use Rattle.l2_program.specs.Programs.{ProgramTree}
 use Rattle.l2_meaning.specs.Execution.{cells_of, exec, IsBroken}
@@ -41,6 +41,10 @@ watch q passes l = record { row = length (rows_at q l) + 1; holds = passes l } �
 -- a turn counts where its loop and each loop around it were entered there or are in their last copy, and its rows hold
 abbrev pub watched : List LoopPoint → (ℕ → Store → Store → Bool) → Tests
 watched q passes = with_watches (rows_at q) (watch q passes)
+
+-- the watch alone, for executions that aren't cut
+abbrev pub only_watched : List LoopPoint → (ℕ → Store → Store → Bool) → Tests
+only_watched q passes = with_watches no_rows (watch q passes)
 
 -- ---- what points promise
 
