@@ -9,5 +9,5 @@ pub mod TreeBounding
 pub mod Starts
 pub mod PointFacts
 pub mod RankNumbers
-pub mod Laws
-pub mod MoreLaws
+pub mod Following
+pub mod Consequences

@@ -30,7 +30,7 @@ use Rattle.l2_cut_laws.proofs.TreeMeeting.{main_meets}
 use Rattle.l2_cut_laws.proofs.TreeBounding.{main_bounded}
 use Rattle.l2_cut_laws.proofs.RankNumbers.{store_small, rank_number, rank_below, rank_lower}
 use Rattle.l2_cut_laws.proofs.PointFacts.{stronger_starts, meet_tests, stronger_watches, stronger_meets, stronger_tests}
-use Rattle.l2_cut_laws.proofs.Laws.{start, end_of, ends_in, has_fallen, fell, is_fallen, broke, is_broken, f, g, main, body_tidy, of_main, to_main, breaks, fails}
+use Rattle.l2_cut_laws.proofs.Following.{start, end_of, ends_in, has_fallen, fell, is_fallen, broke, is_broken, f, g, main, body_tidy, of_main, to_main, breaks, fails}
 
 -- ---- cut law
 
