@@ -1,10 +1,10 @@
 -- What follows from the laws: rows hold in real executions, turns are bounded, stronger points keep what weaker ones promise.
-use Rattle.std.proofs.Common.{◌≡◌, ℕ, zero, suc, ◌≤◌, ◌<◌, ◌^◌, ◌*◌, ℤ, Bool, true, false, List, [], ◌∷◌, ◌++◌, length, Option, Some, None, ◌⊎◌, inl, inr, refl, sym, ap, ◌∙◌, subst, arith}
+use Rattle.std.proofs.Common.{◌≡◌, ℕ, zero, suc, ◌≤◌, ◌<◌, ◌^◌, ◌*◌, ℤ, Bool, true, false, List, length, ◌⊎◌, inl, inr, ap, subst, arith}
 use Rattle.l2_runs.specs.declared.member.Member.{Member}
 use Rattle.l2_runs.specs.declared.outcome.Outcome.TheVariants.{Broken, OutOfTurns}
 use Rattle.l2_runs.specs.Store.{Store}
-use Rattle.l2_runs.specs.Runs.{State, End, Over, Fallen, Result, Go, Halt, Run}
-use Rattle.l2_runs.specs.Loops.{Limit, Real, Test, Tests, no_tests}
+use Rattle.l2_runs.specs.Runs.{Over, Fallen, Result, Go, Halt}
+use Rattle.l2_runs.specs.Loops.{Limit, Real, Tests, no_tests}
 use Rattle.l2_runs.specs.Back.{back, scatter}
 use Rattle.l2_run_laws.specs.Watches.{HoldAll, alone, with_watches, no_rows}
 use Rattle.l2_run_laws.proofs.CutRuns.{EndsIn}
@@ -12,12 +12,12 @@ use Rattle.l2_run_laws.proofs.Pointing.{IsSound}
 use Rattle.l2_run_laws.proofs.Agreeing.{Any, NoneOf, Alike, TestsAgree, more_agree, twice_agree, falls_so, falls_too, same_or}
 use Rattle.l2_run_laws.proofs.Meeting.{HasFallen, MeetsAt, Meets, TestsMeet, then_meets, same_meets, start_meets}
 use Rattle.l2_run_laws.proofs.Bounds.{BoundedAt, not_out}
-use Rattle.l2_program.specs.Programs.{ProgramTree, FunctionTree}
+use Rattle.l2_program.specs.Programs.{ProgramTree}
 use Rattle.l2_templates.specs.declared.form.Form.{Form}
 use Rattle.l2_templates.specs.declared.point.LoopPoint.{LoopPoint}
 use Rattle.l2_templates.specs.Points.{meet, AreAlike, IsStronger}
 use Rattle.l2_templates.proofs.Strength.{meet_first, meet_second}
-use Rattle.l2_meaning.specs.Execution.{cells_of, calls_of, setting_of, enter, run_program, main_among, first_store, report, exec, IsBroken, Safe}
+use Rattle.l2_meaning.specs.Execution.{cells_of, calls_of, setting_of, enter, run_program, main_among, report, exec, IsBroken, Safe}
 use Rattle.l2_meaning.specs.Scopes.{statics_of}
 use Rattle.l2_meaning.specs.Pointing.{AreClosed}
 use Rattle.l2_meaning.specs.Lawful.{IsLawful}
@@ -94,9 +94,9 @@ same_run p lawful sets closed k some q passes none choices turns =
     let x = run_program p Real (only_watched q passes) (start p choices turns) in
     same_or x (run_program p Real no_tests (start p choices turns)) (agreeing p Real Any (only_watched q passes) no_tests (more_agree no_rows (watch q passes)) choices turns)
     (λ l row h.
-        let e = end_of choices turns x (Fallen l row) h in
-        let c = turns_count p lawful sets closed k some q (passing_infers p sets k q passes none) passes choices turns l row e in
-        none c.0 (is_fallen (cut_end p sets k q (watched q passes) c.0) l row c.1))
+    let e = end_of choices turns x (Fallen l row) h in
+    let c = turns_count p lawful sets closed k some q (passing_infers p sets k q passes none) passes choices turns l row e in
+    none c.0 (is_fallen (cut_end p sets k q (watched q passes) c.0) l row c.1))
 
 pub watch_changes_nothing : (p : ProgramTree) → IsLawful p → (sets : ℕ → Member → Bool) → AreClosed p sets → (k : ℕ) → 1 ≤ k → (q : List LoopPoint) (passes : ℕ → Store → Store → Bool) → TurnsPass p sets k q passes → (choices : List ℤ) (turns : ℕ) →
     exec p Real (only_watched q passes) choices turns ≡ exec p Real no_tests choices turns

@@ -1,43 +1,31 @@
 -- The laws of cut runs, for lawful programs.
-use Rattle.std.proofs.Common.{◌≡◌, ℕ, zero, suc, ◌≤◌, ◌<◌, ◌^◌, ℤ, Bool, true, false, List, [], ◌∷◌, ◌++◌, length, Option, Some, None, ◌⊎◌, inl, inr, refl, sym, ap, ◌∙◌, subst, arith}
+use Rattle.std.proofs.Common.{◌≡◌, ℕ, suc, ℤ, Bool, true, false, List, [], ◌∷◌, ◌++◌, length, Option, Some, ◌⊎◌, inl, inr, refl, sym, ap, ◌∙◌, subst}
 use Rattle.std.specs.Prelude.{◌==◌}
 use Rattle.l2_runs.specs.declared.member.Member.{Member}
 use Rattle.l2_runs.specs.declared.outcome.Outcome.TheVariants.{Ended, Stopped, Broken, OutOfChoices, OutOfTurns}
 use Rattle.l2_runs.specs.Store.{Store}
-use Rattle.l2_runs.specs.Runs.{State, End, Over, Fallen, Result, Go, Halt, Run, and_then, done}
-use Rattle.l2_runs.specs.Loops.{Real, Cut, Test, Tests, no_tests}
-use Rattle.l2_runs.specs.Back.{back, scatter}
-use Rattle.l2_run_laws.specs.Watches.{HoldAll, alone, with_watches, cut_tests, no_rows}
+use Rattle.l2_runs.specs.Runs.{State, End, Over, Fallen, Result, Go, Halt, and_then, done}
+use Rattle.l2_runs.specs.Loops.{Real, Tests, no_tests}
+use Rattle.l2_run_laws.specs.Watches.{with_watches, cut_tests}
 use Rattle.l2_run_laws.proofs.CutRuns.{EndsIn, Cuts, Falls, Halts, Matched, Meets, Follows}
-use Rattle.l2_run_laws.proofs.Pointing.{IsSound}
 use Rattle.l2_run_laws.proofs.LoopFrames.{Among}
-use Rattle.l2_run_laws.proofs.Agreeing.{Any, NoneOf, more_agree, twice_agree, falls_so, falls_too, same_or}
 use Rattle.l2_run_laws.proofs.Meeting as meeting
-use Rattle.l2_run_laws.proofs.Bounds.{not_out}
 use Rattle.l2_program.specs.Names.{declared_in}
 use Rattle.l2_program.specs.Programs.{ProgramTree, FunctionTree}
 use Rattle.l2_program.specs.declared.program.ObjectInfo.{ObjectInfo}
-use Rattle.l2_templates.specs.declared.form.Form.{Form}
 use Rattle.l2_templates.specs.declared.point.LoopPoint.{LoopPoint}
-use Rattle.l2_templates.specs.Points.{meet, AreAlike, IsStronger}
-use Rattle.l2_templates.proofs.Strength.{meet_first, meet_second}
 use Rattle.l2_meaning.specs.Meaning.{act}
-use Rattle.l2_meaning.specs.Execution.{cells_of, calls_of, setting_of, declare_all, enter, run_program, main_among, first_store, report, exec, IsBroken, Safe}
+use Rattle.l2_meaning.specs.Execution.{cells_of, calls_of, setting_of, declare_all, enter, run_program, main_among, first_store, report, exec, IsBroken}
 use Rattle.l2_meaning.specs.Scopes.{statics_of}
 use Rattle.l2_meaning.specs.Pointing.{AreClosed}
 use Rattle.l2_meaning.specs.Lawful.{Listing, IsLawful, IsLawfulFunction, AreNotStatic}
-use Rattle.l2_cuts.specs.Points.{values_of, starts, ranks_at, lowers}
-use Rattle.l2_cuts.specs.Cuts.{mods_of, cut_limit, rows_at, watch, watched, IsFallen, cut_end, row_end, Infers, Proves, TurnsPass, RankProves}
-use Rattle.l2_cuts.specs.Turns.{turns_in, turns_of_main, turns_of}
+use Rattle.l2_cuts.specs.Points.{starts}
+use Rattle.l2_cuts.specs.Cuts.{mods_of, cut_limit, rows_at, IsFallen, cut_end, row_end, Infers}
 use Rattle.l2_cut_laws.proofs.Tidy.{dying, IsTidy}
 use Rattle.l2_cut_laws.proofs.LawfulTrees.{AreDistinct, distinct_right, numbers_distinct, tidy, dying_declared, dying_local, has_mods}
 use Rattle.l2_cut_laws.proofs.Starts.{first_sound, first_dead, fresh_in_sets}
-use Rattle.l2_cut_laws.proofs.TreeAgreeing.{main_agrees}
-use Rattle.l2_cut_laws.proofs.TreeMeeting.{main_meets}
 use Rattle.l2_cut_laws.proofs.TreeFollowing.{Ready, AreApart, apart_from, main_follows}
-use Rattle.l2_cut_laws.proofs.TreeBounding.{main_bounded}
-use Rattle.l2_cut_laws.proofs.RankNumbers.{store_small, rank_number, rank_below, rank_lower}
-use Rattle.l2_cut_laws.proofs.PointFacts.{rows_start, stronger_starts, meet_tests, stronger_watches, stronger_meets, stronger_tests}
+use Rattle.l2_cut_laws.proofs.PointFacts.{rows_start}
 
 -- ---- reports
 
@@ -142,8 +130,11 @@ module _ (p : ProgramTree) (lawful : IsLawful p) (sets : ℕ → Member → Bool
 
     -- a cut run of `main` that halts so is one of the program
     halts : (w : Bool) (e : End) → Halts (cuts true w) (first_store p) e → (cs : List ℤ) × (cut_end p sets (suc k) q (tests_in w) cs ≡ e)
-    halts w e h = (h.cs, end_of h.cs 0 (run_program p (cut_limit p sets (suc k) q) (tests_in w) (start p h.cs 0)) e
-        (of_main (λ m. EndsIn (enter (setting_of p (cut_limit p sets (suc k) q) (tests_in w)) m (start p h.cs 0)) e) (h.runs (start p h.cs 0))))
+    halts w e h = (
+      h.cs,
+      end_of h.cs 0 (run_program p (cut_limit p sets (suc k) q) (tests_in w) (start p h.cs 0)) e
+          (of_main (λ m. EndsIn (enter (setting_of p (cut_limit p sets (suc k) q) (tests_in w)) m (start p h.cs 0)) e) (h.runs (start p h.cs 0))),
+    )
 
     real_run : (cs : List ℤ) (t : ℕ) (e : End) → (Over Ended ≡ e → ⊥) → (exec p Real tests cs t).end ≡ e → EndsIn (enter (setting_of p Real tests) (Some f) (start p cs t)) e
     real_run cs t e other h = to_main (λ m. EndsIn (enter (setting_of p Real tests) m (start p cs t)) e) (ends_in cs t (run_program p Real tests (start p cs t)) e other h)

@@ -1,5 +1,5 @@
 -- The trees of lawful programs are tidy, and their loops have what they change.
-use Rattle.std.proofs.Common.{◌≡◌, ℕ, zero, suc, ◌≤◌, Bool, true, false, List, [], ◌∷◌, ◌++◌, Option, Some, None, ◌⊎◌, inl, inr, refl, sym, ap, ◌∙◌, subst, if◌then◌else◌, arith}
+use Rattle.std.proofs.Common.{◌≡◌, ℕ, suc, ◌≤◌, Bool, true, false, List, [], ◌∷◌, ◌++◌, Option, Some, None, inl, inr, sym, ap, ◌∙◌, subst, if◌then◌else◌, arith}
 use Rattle.l2_runs.specs.Numbers.{at_number, numbers_where}
 use Rattle.l2_runs.specs.Fits.{Layout}
 use Rattle.l2_run_laws.proofs.LoopFrames.{Among}
@@ -133,10 +133,11 @@ module _ (is_static : ℕ → Bool) where
 
     all_tidy : (scope : List ℕ) (all : CheckedTrees) → AreScoped is_static scope all → AreDistinct (all_declared_in all) → AreTidy is_static all
     all_tidy scope none h d = tt
-    all_tidy scope (more s rest) h d =
-        (tidy scope s h.0 (distinct_left (declared_in s) (all_declared_in rest) d),
-        λ n a b. distinct_apart (declared_in s) (all_declared_in rest) d n (opened_declared s n b) (all_dying_declared rest n a),
-        all_tidy (behind scope s) rest h.1 (distinct_right (declared_in s) (all_declared_in rest) d))
+    all_tidy scope (more s rest) h d = (
+      tidy scope s h.0 (distinct_left (declared_in s) (all_declared_in rest) d),
+      λ n a b. distinct_apart (declared_in s) (all_declared_in rest) d n (opened_declared s n b) (all_dying_declared rest n a),
+      all_tidy (behind scope s) rest h.1 (distinct_right (declared_in s) (all_declared_in rest) d),
+    )
 
   mutual
     -- objects that die aren't static

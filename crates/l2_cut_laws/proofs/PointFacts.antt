@@ -1,16 +1,14 @@
 -- When the rows of a point hold, of a stronger one, and of a meet.
-use Rattle.std.proofs.Common.{◌≡◌, ℕ, zero, suc, ◌+◌, ◌<◌, Bool, true, false, cond, ℤ, ◌≤ℤ◌, int_lt, Option, Some, None, List, [], ◌∷◌, ◌++◌, length, get_or, drop, map, ◌⊎◌, inl, inr, refl, sym, ap, ◌∙◌, subst, arith}
-use Rattle.std.specs.Prelude.{◌&&◌, slice_get, slice_index_or}
-use Rattle.std.specs.Int.{int_min}
-use Rattle.std.specs.List.{All, Contains, list_all}
+use Rattle.std.proofs.Common.{◌≡◌, ℕ, zero, suc, Bool, true, false, cond, ℤ, ◌≤ℤ◌, int_lt, Option, Some, None, List, [], ◌∷◌, ◌++◌, get_or, drop, map, refl, sym, ap, subst, arith}
+use Rattle.std.specs.Prelude.{◌&&◌, slice_index_or}
+use Rattle.std.specs.List.{Contains, list_all}
 use Rattle.std.proofs.lemmas.Bool.{and_parts}
 use Rattle.std.proofs.lemmas.Int.{ints}
 use Rattle.std.proofs.lemmas.List.Elements.{All-contains, All-contains_itself}
 use Rattle.l2_runs.specs.Store.{Store}
 use Rattle.l2_runs.specs.Loops.{Test, numbered}
-use Rattle.l2_run_laws.specs.Watches.{HoldAll, alone, with_watches}
+use Rattle.l2_run_laws.specs.Watches.{HoldAll, alone}
 use Rattle.l2_run_laws.proofs.Meeting.{TestsMeet}
-use Rattle.l2_templates.specs.declared.form.Form.{Form}
 use Rattle.l2_templates.specs.declared.form.Row.{Row}
 use Rattle.l2_templates.specs.declared.point.LoopPoint.{LoopPoint}
 use Rattle.l2_templates.specs.declared.point.LoopPoint.TheVariants.{Bottom, Rows}
@@ -156,9 +154,10 @@ meet_tests p q alike y = record {
 -- a stronger point with watches, against its rows, and against a weaker point with watches
 pub stronger_watches : (p q : List LoopPoint) (passes : ℕ → Store → Store → Bool) → IsStronger p q → TestsMeet (watched p passes true) (alone (rows_at p) true) (watched q passes true)
 stronger_watches p q passes strong = record {
-  hold = λ l a b h.
-      (hold_left (rows_at p l) (watch p passes l) a b h,
-      hold_append (rows_at q l) (watch q passes l) a b (stronger_tests p q strong l a b (hold_left (rows_at p l) (watch p passes l) a b h)) (let w = hold_right (rows_at p l) (watch p passes l) a b h in (w.0, tt)));
+  hold = λ l a b h. (
+    hold_left (rows_at p l) (watch p passes l) a b h,
+    hold_append (rows_at q l) (watch q passes l) a b (stronger_tests p q strong l a b (hold_left (rows_at p l) (watch p passes l) a b h)) (let w = hold_right (rows_at p l) (watch p passes l) a b h in (w.0, tt)),
+  );
   fail = λ l a b h k. hold_append (rows_at p l) (watch p passes l) a b h (let w = hold_right (rows_at q l) (watch q passes l) a b k in (w.0, tt));
 }
 

@@ -1,5 +1,5 @@
 -- How many turns real runs of trees take, where each turn of a loop lowers its rank.
-use Rattle.std.proofs.Common.{◌≡◌, ℕ, zero, suc, ◌+◌, ◌*◌, ◌^◌, ◌<◌, ◌≤◌, Bool, true, false, List, [], ◌∷◌, Option, Some, None, sym, ap, ◌∙◌, subst, arith}
+use Rattle.std.proofs.Common.{◌≡◌, ℕ, suc, ◌+◌, ◌*◌, ◌^◌, ◌<◌, ◌≤◌, Bool, true, false, List, [], ◌∷◌, Option, Some, None, ap, ◌∙◌, arith}
 use Rattle.std.specs.Prelude.{not}
 use Rattle.std.proofs.Math.Nat.{suc-mul}
 use Rattle.l2_runs.specs.declared.cells.CellType.{CellType}
@@ -7,18 +7,17 @@ use Rattle.l2_runs.specs.declared.cells.CellType.TheVariants.{Integer, Pointer}
 use Rattle.l2_runs.specs.declared.cells.CellValue.{CellValue}
 use Rattle.l2_runs.specs.declared.member.Member.{Member}
 use Rattle.l2_runs.specs.declared.member.Member.TheVariants.{Invalid}
-use Rattle.l2_runs.specs.declared.outcome.Outcome.TheVariants.{Ended}
 use Rattle.l2_runs.specs.Store.{Store}
 use Rattle.l2_runs.specs.Fits.{Layout}
-use Rattle.l2_runs.specs.Runs.{Over, Run, and_then, done, over, either, enliven, bury_all, check}
-use Rattle.l2_runs.specs.Loops.{Real, Tests, loop_of}
-use Rattle.l2_runs.specs.Operators.{unary, binary, unary_overflows, binary_overflows}
+use Rattle.l2_runs.specs.Runs.{Run, and_then, done}
+use Rattle.l2_runs.specs.Loops.{Tests}
+use Rattle.l2_runs.specs.Operators.{unary_overflows, binary_overflows}
 use Rattle.l2_run_laws.specs.Watches.{HoldAll}
 use Rattle.l2_run_laws.proofs.Kept.{Kept, Always, then_kept, done_kept, either_kept, Turned, loop_kept}
 use Rattle.l2_run_laws.proofs.Pointing.{IsSound}
 use Rattle.l2_run_laws.proofs.Bounds.{Bounded, then_bounded, more_suffice, Free, free, then_free, done_free, ended_free, choose_free, read_free, write_free, enliven_free, bury_free, check_free, either_free, either_bounded, budget, budget_is, loop_bounded}
 use Rattle.l2_program.specs.Checked.{Object, TypedTree, Constant, Choice, Read, Unary, Binary, Convert, Assign, Assert, CheckedTree, Block, Declare, Static, Initialise, Label, Evaluate, If, IfElse, While, Return, CheckedTrees, none, more}
-use Rattle.l2_meaning.specs.Meaning.{Value, Ending, Next, Broke, Continued, Returned, Jumping, Calls, Setting, number, number_of, holds, write_cells, put, first_of, fresh, fill, declare, value, declared, past, or_rest, to_turn, while_turn, tree_loop, act, act_all}
+use Rattle.l2_meaning.specs.Meaning.{Ending, Next, Broke, Continued, Returned, Jumping, Calls, Setting, number_of, holds, write_cells, first_of, fresh, fill, declare, value, declared, past, or_rest, to_turn, while_turn, tree_loop, act, act_all}
 use Rattle.l2_meaning.specs.Execution.{declare_all}
 use Rattle.l2_meaning.specs.Pointing.{IsTakenIn, StatementIsTakenIn, AreTakenIn, has_pointer}
 use Rattle.l2_meaning.specs.Lawful.{Listing, IsTyped, IsTypedStatement, AreTyped, HasChecks, StatementHasChecks, HaveChecks, AreNotStatic}

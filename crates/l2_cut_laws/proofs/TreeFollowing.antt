@@ -1,29 +1,28 @@
 -- Cut runs of trees follow real ones, or fall at a row.
-use Rattle.std.proofs.Common.{◌≡◌, ℕ, zero, suc, Bool, true, false, List, [], ◌∷◌, ◌++◌, Option, Some, None, ◌⊎◌, inl, inr, refl, subst}
+use Rattle.std.proofs.Common.{◌≡◌, ℕ, suc, Bool, true, false, List, [], ◌∷◌, ◌++◌, Option, Some, None, inl, inr, subst}
 use Rattle.std.specs.Prelude.{not}
 use Rattle.l2_runs.specs.declared.cells.CellType.{CellType}
 use Rattle.l2_runs.specs.declared.cells.CellType.TheVariants.{Integer, Pointer}
 use Rattle.l2_runs.specs.declared.cells.CellValue.{CellValue}
 use Rattle.l2_runs.specs.declared.member.Member.{Member}
 use Rattle.l2_runs.specs.declared.member.Member.TheVariants.{Invalid}
-use Rattle.l2_runs.specs.declared.outcome.Outcome.TheVariants.{Ended}
 use Rattle.l2_runs.specs.Store.{Store}
 use Rattle.l2_runs.specs.Fits.{Layout, CellsFit}
 use Rattle.l2_runs.specs.Back.{back}
-use Rattle.l2_runs.specs.Runs.{State, Over, Result, Go, Halt, Run, and_then, done, over, either, enliven, bury_all, check}
-use Rattle.l2_runs.specs.Loops.{Real, Cut, Test, Tests}
-use Rattle.l2_runs.specs.Operators.{unary, binary, unary_overflows, binary_overflows}
+use Rattle.l2_runs.specs.Runs.{Result, Go, Halt, Run, and_then, done, bury_all}
+use Rattle.l2_runs.specs.Loops.{Cut, Test, Tests}
+use Rattle.l2_runs.specs.Operators.{unary_overflows, binary_overflows}
 use Rattle.l2_run_laws.specs.Watches.{HoldAll, cut_tests, CellsIn}
 use Rattle.l2_run_laws.proofs.Kept.{KeptAt, Kept, Always, then_kept, done_kept, either_kept}
 use Rattle.l2_run_laws.proofs.CutRuns.{Cuts, Simulates, Follows, then_follows, done_follows, ended_follows, choose_follows, read_follows, write_follows, enliven_follows, bury_follows, check_follows, either_follows, fewer_follow}
-use Rattle.l2_run_laws.proofs.Frames.{Frame, NoObject, Dead, frame_refl, frame_trans, still_dead, FramedAt, Frames, then_frames, done_frames, fewer_frames}
+use Rattle.l2_run_laws.proofs.Frames.{Frame, NoObject, Dead, frame_refl, frame_trans, still_dead, FramedAt, Frames, then_frames, done_frames}
 use Rattle.l2_run_laws.proofs.LoopFrames.{Among}
 use Rattle.l2_run_laws.proofs.Scatters.{back_comes}
 use Rattle.l2_run_laws.proofs.CutLoops.{FramedTurn, loop_follows}
 use Rattle.l2_run_laws.proofs.Pointing.{IsSound}
 use Rattle.l2_program.specs.Checked.{Object, TypedTree, Constant, Choice, Read, Unary, Binary, Convert, Assign, Assert, CheckedTree, Block, Declare, Static, Initialise, Label, Evaluate, If, IfElse, While, Return, CheckedTrees, none, more}
 use Rattle.l2_program.specs.Types.{type_of}
-use Rattle.l2_meaning.specs.Meaning.{Value, Ending, Next, Broke, Continued, Returned, Jumping, Calls, Setting, number, number_of, holds, write_cells, put, first_of, fresh, fill, declare, value, declared, past, or_rest, to_turn, while_turn, tree_loop, act, act_all}
+use Rattle.l2_meaning.specs.Meaning.{Ending, Next, Broke, Continued, Returned, Jumping, Calls, Setting, number_of, holds, write_cells, first_of, fresh, fill, declare, value, declared, past, or_rest, to_turn, while_turn, tree_loop, act, act_all}
 use Rattle.l2_meaning.specs.Execution.{declare_all}
 use Rattle.l2_meaning.specs.Pointing.{may_be, StatementIsTakenIn, AreTakenIn, IsTakenIn, has_pointer}
 use Rattle.l2_meaning.specs.Changes.{changes_of, changes_in}

@@ -1,5 +1,5 @@
 -- What real runs of trees change, and whose lifetimes they begin.
-use Rattle.std.proofs.Common.{◌≡◌, ℕ, zero, suc, Bool, true, false, List, [], ◌∷◌, ◌++◌, Option, Some, None, ◌⊎◌, inl, inr, refl}
+use Rattle.std.proofs.Common.{ℕ, suc, Bool, true, List, [], ◌∷◌, ◌++◌, Option, Some, None, ◌⊎◌, inl, inr, refl}
 use Rattle.std.specs.Prelude.{not}
 use Rattle.l2_runs.specs.declared.cells.CellType.{CellType}
 use Rattle.l2_runs.specs.declared.cells.CellType.TheVariants.{Integer, Pointer}
@@ -7,13 +7,13 @@ use Rattle.l2_runs.specs.declared.cells.CellValue.{CellValue}
 use Rattle.l2_runs.specs.declared.member.Member.{Member}
 use Rattle.l2_runs.specs.declared.outcome.Outcome.TheVariants.{Ended}
 use Rattle.l2_runs.specs.Fits.{Layout}
-use Rattle.l2_runs.specs.Runs.{Over, Run, and_then, done, over, either, enliven, bury_all, check}
-use Rattle.l2_runs.specs.Loops.{Real, Tests}
-use Rattle.l2_runs.specs.Operators.{unary, binary, unary_overflows, binary_overflows}
+use Rattle.l2_runs.specs.Runs.{Over, Run, and_then, done}
+use Rattle.l2_runs.specs.Loops.{Tests}
+use Rattle.l2_runs.specs.Operators.{unary_overflows, binary_overflows}
 use Rattle.l2_run_laws.proofs.Frames.{NoObject, Frames, then_opens, then_frames, fewer_frames, done_frames, over_frames, either_frames, choose_frames, read_frames, write_frames, enliven_frames, check_frames}
 use Rattle.l2_run_laws.proofs.LoopFrames.{Among, block_frames, loop_frames}
 use Rattle.l2_program.specs.Checked.{Object, TypedTree, Constant, Choice, Read, Unary, Binary, Convert, Assign, Assert, CheckedTree, Block, Declare, Static, Initialise, Label, Evaluate, If, IfElse, While, Return, CheckedTrees, none, more}
-use Rattle.l2_meaning.specs.Meaning.{Value, Ending, Next, Broke, Continued, Returned, Jumping, Calls, Setting, number, number_of, holds, write_cells, put, first_of, fresh, fill, declare, value, declared, past, or_rest, to_turn, while_turn, tree_loop, act, act_all}
+use Rattle.l2_meaning.specs.Meaning.{Value, Ending, Next, Broke, Continued, Returned, Jumping, Calls, Setting, number_of, holds, write_cells, first_of, fresh, fill, declare, value, declared, past, or_rest, to_turn, while_turn, tree_loop, act, act_all}
 use Rattle.l2_meaning.specs.Changes.{changes_of, changes_in, all_changes_in}
 use Rattle.l2_cut_laws.proofs.Tidy.{opened, dying, all_dying, IsBare, IsTidy, AreTidy}
 use Rattle.l2_cut_laws.proofs.TreeKept.{real}
@@ -85,9 +85,9 @@ declared_first (Return e) rest n a = inr a
 declared_dies : (all : CheckedTrees) (n : ℕ) → Among (declared all) n → Among (all_dying all) n
 declared_dies none n a = absurd a
 declared_dies (more s rest) n a = elim (declared_first s rest n a) [
-    | inl o ↦ among_left (dying s) (all_dying rest) n (opened_dies s n o)
-    | inr d ↦ among_right (dying s) (all_dying rest) n (declared_dies rest n d)
-  ]
+  | inl o ↦ among_left (dying s) (all_dying rest) n (opened_dies s n o)
+  | inr d ↦ among_right (dying s) (all_dying rest) n (declared_dies rest n d)
+]
 
 pub bare_opens : (s : CheckedTree) → IsBare s → (n : ℕ) → Among (opened s) n → ⊥
 bare_opens (Declare m) b n a = b

@@ -1,5 +1,5 @@
 -- Real runs of trees keep types and sets.
-use Rattle.std.proofs.Common.{◌≡◌, ℕ, zero, suc, ℤ, Bool, true, false, List, [], ◌∷◌, Option, Some, None, refl}
+use Rattle.std.proofs.Common.{◌≡◌, ℕ, suc, ℤ, Bool, true, false, List, [], ◌∷◌, Option, Some, None, refl}
 use Rattle.std.specs.Prelude.{not}
 use Rattle.l2_bits.specs.Values.{wrap}
 use Rattle.l2_bits.specs.Operators.{convert}
@@ -13,7 +13,7 @@ use Rattle.l2_runs.specs.declared.outcome.Outcome.TheVariants.{Ended}
 use Rattle.l2_runs.specs.Store.{Store}
 use Rattle.l2_runs.specs.Fits.{Layout, CellsFit}
 use Rattle.l2_runs.specs.Members.{targets, Within}
-use Rattle.l2_runs.specs.Runs.{Over, Run, and_then, done, over, either, enliven, bury_all, check}
+use Rattle.l2_runs.specs.Runs.{Over, Run, and_then, done}
 use Rattle.l2_runs.specs.Loops.{Real, Tests}
 use Rattle.l2_runs.specs.Keeps.{Anything}
 use Rattle.l2_runs.specs.Operators.{unary, binary, unary_overflows, binary_overflows}
@@ -22,7 +22,7 @@ use Rattle.l2_run_laws.proofs.Kept.{Kept, Always, then_kept, done_kept, over_kep
 use Rattle.l2_run_laws.proofs.Pointing.{cells_within, Inside, read_inside, write_inside, enliven_inside, bury_inside, IsSound, both}
 use Rattle.l2_program.specs.Checked.{Object, TypedTree, Constant, Choice, Read, Unary, Binary, Convert, Assign, Assert, CheckedTree, Block, Declare, Static, Initialise, Label, Evaluate, If, IfElse, While, Return, CheckedTrees, none, more}
 use Rattle.l2_program.specs.Types.{type_of}
-use Rattle.l2_meaning.specs.Meaning.{Value, Ending, Next, Broke, Continued, Returned, Jumping, Calls, Setting, number, number_of, holds, write_cells, put, first_of, fresh, fill, declare, value, declared, past, or_rest, to_turn, while_turn, tree_loop, act, act_all}
+use Rattle.l2_meaning.specs.Meaning.{Value, Ending, Next, Broke, Continued, Returned, Jumping, Calls, Setting, number_of, holds, write_cells, put, first_of, fresh, fill, declare, value, declared, past, or_rest, to_turn, while_turn, tree_loop, act, act_all}
 use Rattle.l2_meaning.specs.Pointing.{may_be, IsTakenIn, StatementIsTakenIn, AreTakenIn, has_pointer}
 use Rattle.l2_meaning.specs.Lawful.{Listing, IsTyped, IsTypedStatement, AreTyped, HasChecks, StatementHasChecks, HaveChecks}
 use Rattle.l2_cut_laws.proofs.Tidy.{IsTidy, AreTidy}

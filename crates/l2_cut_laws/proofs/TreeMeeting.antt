@@ -4,7 +4,7 @@ use Rattle.std.specs.Prelude.{not}
 use Rattle.l2_runs.specs.Store.{Store}
 use Rattle.l2_runs.specs.Fits.{Layout}
 use Rattle.l2_runs.specs.Runs.{Run, and_then, done, enliven, bury_all, check}
-use Rattle.l2_runs.specs.Loops.{Limit, Cut, Test, Tests}
+use Rattle.l2_runs.specs.Loops.{Cut, Tests}
 use Rattle.l2_runs.specs.Operators.{unary, binary, unary_overflows, binary_overflows}
 use Rattle.l2_run_laws.specs.Watches.{HoldAll}
 use Rattle.l2_run_laws.proofs.Meeting.{Meets, then_meets, same_meets, either_meets, TestsMeet, loop_meets}

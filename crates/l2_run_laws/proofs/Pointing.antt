@@ -1,13 +1,13 @@
 -- Runs keep pointers in their objects' sets, where what is written is in them.
-use Rattle.std.proofs.Common.{◌≡◌, ℕ, zero, suc, pos, Bool, true, false, List, [], ◌∷◌}
+use Rattle.std.proofs.Common.{ℕ, zero, suc, pos, Bool, true, false, List, [], ◌∷◌}
 use Rattle.std.specs.Prelude.{slice_index_or, slice_set}
 use Rattle.l2_runs.specs.declared.cells.CellValue.{CellValue}
 use Rattle.l2_runs.specs.declared.cells.CellValue.TheVariants.{Number}
 use Rattle.l2_runs.specs.declared.member.Member.{Member}
-use Rattle.l2_runs.specs.Store.{Object, Store, Address, object_at, with_live}
+use Rattle.l2_runs.specs.Store.{Store, Address, object_at, with_live}
 use Rattle.l2_runs.specs.Fits.{Layout, StoreFits}
 use Rattle.l2_runs.specs.Members.{targets, Within}
-use Rattle.l2_runs.specs.Runs.{State, Result, Go, Halt, Run, read, write, enliven, bury, bury_all}
+use Rattle.l2_runs.specs.Runs.{Result, Go, Halt, Run, read, write, enliven, bury, bury_all}
 use Rattle.l2_runs.specs.Keeps.{ResultFits, Keeps}
 use Rattle.l2_run_laws.specs.Watches.{CellsIn, InSets}
 use Rattle.l2_run_laws.proofs.Kept.{KeptAt, Kept, Always, then_kept, done_kept}
@@ -35,8 +35,15 @@ module _ (sets : ℕ → Member → Bool) where
   read_inside a = record { by = λ s h. (in_index (sets a.object) (object_at s.store a.object).cells a.offset (h.cells a.object), h) }
 
   pub write_inside : (a : Address) (v : CellValue) → Within (targets v) (sets a.object) → Inside Always (write a v)
-  write_inside a v w = record { by = λ s h. (tt, record { cells = at_set (λ k x. CellsIn (sets k) x.cells) s.store a.object (record (object_at s.store a.object) { cells = slice_set (object_at s.store a.object).cells a.offset v })
-      (in_set (sets a.object) (object_at s.store a.object).cells a.offset v w (h.cells a.object)) h.cells }) }
+  write_inside a v w = record {
+    by = λ s h. (
+      tt,
+      record {
+        cells = at_set (λ k x. CellsIn (sets k) x.cells) s.store a.object (record (object_at s.store a.object) { cells = slice_set (object_at s.store a.object).cells a.offset v })
+            (in_set (sets a.object) (object_at s.store a.object).cells a.offset v w (h.cells a.object)) h.cells;
+      },
+    );
+  }
 
   lives : (st : Store) (m : ℕ) (live : Bool) → InSets sets st → InSets sets (with_live st m live)
   lives st m live h = record { cells = at_set (λ k x. CellsIn (sets k) x.cells) st m (record (object_at st m) { live = live }) (h.cells m) h.cells }

@@ -149,22 +149,26 @@ module _ (cells : Layout) (none : cells 0 ≡ []) (sets : ℕ → Member → Boo
   cells_scattered o f (t ∷ types) [] fit inside = absurd fit
   cells_scattered o f (t ∷ types) (v ∷ vs) fit inside =
       let first = gives o t v fit.0 inside.0 in
-      let more = cells_scattered o (suc f) types vs fit.1 inside.1 in
-      (first.cs ++ more.0, λ a rest s.
-          ap (λ cs. scatter_cells cells (sets o) o f (t ∷ types) (at a cs s)) (append_assoc first.cs more.0 rest)
-          ∙ ap (λ r. on_go r (λ w. and_then (write (record { object = o; offset = f }) w) (λ u. scatter_cells cells (sets o) o (suc f) types))) (first.runs a (more.0 ++ rest) s)
-          ∙ more.1 (with_cell a (record { object = o; offset = f }) v) rest s)
+      let more = cells_scattered o (suc f) types vs fit.1 inside.1 in (
+        first.cs ++ more.0,
+        λ a rest s.
+            ap (λ cs. scatter_cells cells (sets o) o f (t ∷ types) (at a cs s)) (append_assoc first.cs more.0 rest)
+            ∙ ap (λ r. on_go r (λ w. and_then (write (record { object = o; offset = f }) w) (λ u. scatter_cells cells (sets o) o (suc f) types))) (first.runs a (more.0 ++ rest) s)
+            ∙ more.1 (with_cell a (record { object = o; offset = f }) v) rest s,
+      )
 
   -- choices that make the one store the other
   pub scattered : (os : List ℕ) (a b : Store) → Frame (Among os) NoObject a b → StoreFits cells b → InSets sets b → (cs : List ℤ) × ((rest : List ℤ) (s : State) → scatter cells sets os (at a (cs ++ rest) s) ≡ Go tt (at b rest s))
   scattered [] a b frame fit inside = ([], λ rest s. ap (λ st. Go tt (at st rest s)) (frame_none a b frame))
   scattered (o ∷ os) a b frame fit inside =
       let first = cells_scattered o 0 (cells o) (object_at b o).cells (fit.cells o) (inside.cells o) in
-      let more = scattered os (taken o a b) b (taken_frame o os a b frame) fit inside in
-      (first.0 ++ more.0, λ rest s.
-          ap (λ cs. scatter cells sets (o ∷ os) (at a cs s)) (append_assoc first.0 more.0 rest)
-          ∙ ap (λ r. on_go r (λ u. scatter cells sets os)) (first.1 a (more.0 ++ rest) s)
-          ∙ more.1 rest s)
+      let more = scattered os (taken o a b) b (taken_frame o os a b frame) fit inside in (
+        first.0 ++ more.0,
+        λ rest s.
+            ap (λ cs. scatter cells sets (o ∷ os) (at a cs s)) (append_assoc first.0 more.0 rest)
+            ∙ ap (λ r. on_go r (λ u. scatter cells sets os)) (first.1 a (more.0 ++ rest) s)
+            ∙ more.1 rest s,
+      )
 
   -- a back start comes to each store that differs at most at the loop's objects, and where the loop may start
   pub back_comes : (mods : ℕ → List ℕ) (starts : ℕ → Store → Bool) (l : ℕ) (a b : Store) → Frame (Among (mods l)) NoObject a b → StoreFits cells b → InSets sets b → starts l b ≡ true → Simulates (λ y w. back cells sets mods starts l) a b tt
