@@ -11,3 +11,4 @@ pub mod PointFacts
 pub mod RankNumbers
 pub mod Following
 pub mod Consequences
+pub mod TreeShort

@@ -3,7 +3,7 @@ ghost use Rattle.std.specs.Prelude.{◌≡◌, ◌≤◌, ◌⊎◌, ℕ, ℤ, B
 ghost use Rattle.l2_runs.specs.declared.outcome.Outcome.TheVariants.{Broken, OutOfTurns};
 ghost use Rattle.l2_runs.specs.Store.{Store};
 ghost use Rattle.l2_runs.specs.Runs.{Over, Fallen};
-ghost use Rattle.l2_runs.specs.Loops.{Real, no_tests};
+ghost use Rattle.l2_runs.specs.Loops.{Real, Short, no_tests};
 ghost use Rattle.l2_run_laws.specs.Watches.{alone};
 ghost use Rattle.l2_program.specs.Programs.{ProgramTree};
 ghost use Rattle.l2_meaning.specs.Execution.{exec, Safe};
@@ -50,4 +50,10 @@ pub fn meet_law()
 pub fn turn_bound()
     ensures turns { (p : ProgramTree) → IsLawful p → (sets : Sets) → AreClosed p sets → (k : ℕ) → 1 ≤ k → (q : List LoopPoint) (r : List (List Form)) → RankProves p sets k q r → (choices : List ℤ) (turns : ℕ) → turns_of p r ≤ turns → ¬ ((exec p Real no_tests choices turns).end ≡ Over OutOfTurns) }
     ensures terminating { (p : ProgramTree) → IsLawful p → (sets : Sets) → AreClosed p sets → (k : ℕ) → 1 ≤ k → (q : List LoopPoint) (r : List (List Form)) → RankProves p sets k q r → Terminating p r }
+{}
+
+/// Where a run in which each entry of a loop arrives at its head at most k times breaks a check, the execution with as many
+/// turns as the run's arrivals does the same, and uses them up.
+pub fn short_law()
+    ensures { (p : ProgramTree) (k : ℕ) (choices : List ℤ) (c : ℕ) → (exec p (Short k) no_tests choices 0).end ≡ Over (Broken c) → exec p Real no_tests choices (exec p (Short k) no_tests choices 0).turns_used ≡ exec p (Short k) no_tests choices 0 }
 {}
