@@ -9,3 +9,4 @@ pub mod Agreeing
 pub mod Meeting
 pub mod Bounds
 pub mod Pointing
+pub mod ShortRuns
