@@ -173,3 +173,59 @@ fn of_items(items: &[Item], list: &mut Vec<Inclusion>) -> Result<(), AllocError>
     }
     Ok(())
 }
+
+// What an object's cells start with.
+fn of_start(list: &mut Vec<Inclusion>, object: u32, start: &[CellValue]) -> Result<(), AllocError>
+    ensures { OnOk result (list.new.items ≡ list.old.items ++ of_start object start.now) }
+{
+    for value in start {
+        copies_one(list, target_of(*value), object_node(object))?;
+    }
+    Ok(())
+}
+
+fn has_pointer(cells: &[CellType]) -> bool
+    ensures { result ≡ has_pointer cells.now }
+{
+    for ty in cells {
+        if let CellType::Pointer = ty {
+            return true;
+        }
+    }
+    false
+}
+
+fn of_first(list: &mut Vec<Inclusion>, number: u32, object: &CodeObject) -> Result<(), AllocError>
+    ensures { OnOk result (list.new.items ≡ list.old.items ++ of_first number object.now) }
+{
+    if has_pointer(object.cells.as_slice()) {
+        let member = if object.is_static { Member::Null } else { Member::Invalid };
+        list.push(Inclusion::Has(object_node(number), member))?;
+    }
+    Ok(())
+}
+
+fn of_objects(list: &mut Vec<Inclusion>, objects: &[CodeObject]) -> Result<(), AllocError>
+    ensures { OnOk result (list.new.items ≡ list.old.items ++ of_objects 1 objects.now) }
+{
+    let mut number: u32 = 0;
+    for object in objects {
+        if number == u32::MAX {
+            return Err(AllocError);
+        }
+        number += 1;
+        of_first(list, number, object)?;
+        of_start(list, number, object.start.as_slice())?;
+    }
+    Ok(())
+}
+
+/// The inclusions that a code asks.
+pub fn gather_all(alloc: Global, code: &Code) -> Result<Vec<Inclusion>, AllocError>
+    ensures { IfOk result (λ v. v.items ≡ inclusions_of (code_of code.now)) }
+{
+    let mut list = Vec::new(alloc);
+    of_items(&code.items, &mut list)?;
+    of_objects(&mut list, code.objects.as_slice())?;
+    Ok(list)
+}

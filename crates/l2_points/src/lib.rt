@@ -3,4 +3,4 @@
 
 mod gather;
 
-pub use l2_inclusions::least;
+pub use gather::gather_all;
