@@ -12,7 +12,7 @@ use Rattle.l2_code.specs.declared.action.Action.{Action}
 use Rattle.l2_code.specs.declared.action.Action.TheVariants as action
 use Rattle.l2_code.specs.declared.code.CodeObject.{CodeObject}
 use Rattle.l2_code.specs.Trees.{Node, Do, Block, Loop, Nodes, none, more, CodeTree}
-use Rattle.l2_code.specs.Sets.{Family, has_pointer, unwritten, rank}
+use Rattle.l2_code.specs.Sets.{Family, has_pointer, unwritten}
 use Rattle.l2_inclusions.specs.declared.inclusion.Inclusion.{Inclusion}
 use Rattle.l2_inclusions.specs.declared.inclusion.Inclusion.TheVariants.{Has, Copies, Loads, Stores}
 use Rattle.l2_inclusions.specs.Inclusions as nodes
@@ -24,8 +24,13 @@ use Rattle.l2_inclusions.specs.Inclusions.{object_node}
 abbrev pub temp_node : ℕ → ℕ
 temp_node t = 3 * t + 1
 
+abbrev pub number_of : Member → ℕ
+number_of Null = 0
+number_of Invalid = 1
+number_of (Object o) = suc (suc o)
+
 abbrev pub one_node : Member → ℕ
-one_node m = 3 * rank m + 2
+one_node m = 3 * number_of m + 2
 
 -- the sets of objects and temporaries, by those of nodes
 abbrev pub code_family : nodes.Family → Family
@@ -34,7 +39,7 @@ code_family f = record { object = λ n. f (object_node n); temp = λ n. f (temp_
 abbrev pub node_set : Family → ℕ → ℕ → Member → Bool
 node_set f zero k m = f.object k m
 node_set f (suc zero) k m = f.temp k m
-node_set f (suc (suc r)) k m = rank m == k
+node_set f (suc (suc r)) k m = number_of m == k
 
 -- the sets of nodes, by those of objects and temporaries
 unfoldable pub node_family : Family → nodes.Family

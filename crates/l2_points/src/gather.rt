@@ -22,7 +22,7 @@ fn one_node(member: Member) -> usize
     match member {
         Member::Null => 2,
         Member::Invalid => 5,
-        Member::Object(object) => 3 * (object as usize + 1) + 2,
+        Member::Object(object) => 3 * (object as usize + 2) + 2,
     }
 }
 
