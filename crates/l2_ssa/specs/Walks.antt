@@ -344,19 +344,19 @@ merge_flags p h (x ∷ xs) [] = []
 merge_flags p h (x ∷ xs) (y ∷ ys) = Merge p h (Integer bool_type) x.live y.live ∷ merge_flags p h xs ys
 
 -- n is the name of the first cell, m that of the first flag
-abbrev pub merged_slots : Setting → ℕ → ℕ → ℕ → List Slot → List Slot → List Slot
-merged_slots g n m o [] ys = []
-merged_slots g n m o (x ∷ xs) [] = []
-merged_slots g n m o (x ∷ xs) (y ∷ ys) =
+abbrev pub merged_slots : Setting → Operand → Operand → ℕ → ℕ → ℕ → List Slot → List Slot → List Slot
+merged_slots g p h n m o [] ys = []
+merged_slots g p h n m o (x ∷ xs) [] = []
+merged_slots g p h n m o (x ∷ xs) (y ∷ ys) =
     record { cells = merged_cells n (g.types.objects o) x.cells y.cells; live = Temp m }
-    ∷ merged_slots g (past n (merge_cells F F (g.types.objects o) x.cells y.cells)) (suc m) (suc o) xs ys
+    ∷ merged_slots g p h (past n (merge_cells p h (g.types.objects o) x.cells y.cells)) (suc m) (suc o) xs ys
 
 abbrev pub merge_if : Setting → ℕ → Entry → ℕ → Walk → Written
 merge_if g zero e n w =
     let cells = merge_slots g w.path e.path 1 e.slots w.slots in
     let flags = merge_flags w.path e.path e.slots w.slots in
     record {
-      walk = record w { path = Temp (past (past n cells) flags); slots = merged_slots g n (past n cells) 1 e.slots w.slots };
+      walk = record w { path = Temp (past (past n cells) flags); slots = merged_slots g w.path e.path n (past n cells) 1 e.slots w.slots };
       steps = cells ++ (flags ++ Either w.path e.path ∷ []);
     }
 merge_if g (suc d) e n w = record { walk = w; steps = [] }
