@@ -110,3 +110,106 @@ module _ (m : Meaning) (s : Names) (g : Setting) where
     merge_stands Off (At t) d h k = (both_path false true h.0 k.0, (both_slots h.1 k.1).size, (both_slots h.1 k.1).second t k.0 h.0 k.2)
     merge_stands (At st) Off d h k = (both_path true false h.0 k.0, (both_slots h.1 k.1).size, (both_slots h.1 k.1).first st h.0 h.2)
     merge_stands (At st) (At t) d h k = absurd d
+
+  -- ---- all entries of a label
+
+  shut_if : (d : ℕ) (e : Entry) (n : ℕ) (w : Walk) (q : Spot) → Stands m s g e.path e.slots Off → Stands m s g w.path w.slots q → Solves m s n (merge_if g d e n w).steps
+      → Stands m s g (merge_if g d e n w).walk.path (merge_if g d e n w).walk.slots q
+  shut_if zero e n w q h k ok = merge_stands e w n ok Off q tt h k
+  shut_if (suc d) e n w q h k ok = k
+
+  all_shut : (es : List Entry) (n : ℕ) (w : Walk) (q : Spot) → AllShut m s g es → Stands m s g w.path w.slots q → Solves m s n (merge_all g es n w).steps
+      → Stands m s g (merge_all g es n w).walk.path (merge_all g es n w).walk.slots q
+  all_shut [] n w q h k ok = k
+  all_shut (e ∷ es) n w q h k ok =
+      let x = merge_if g e.depth e n w in
+      all_shut es (past n x.steps) x.walk q h.1 (shut_if e.depth e n w q h.0 k (solves_first m s g n x.steps _ ok)) (solves_second m s g n x.steps _ ok)
+
+  abbrev land : ℕ → Store → Spot
+  land zero st = At st
+  land (suc n) st = Off
+
+  open_if : (d : ℕ) (e : Entry) (n : ℕ) (w : Walk) (k : ℕ) (st : Store) → d ≡ k → Stands m s g e.path e.slots (At st) → Stands m s g w.path w.slots Off → Solves m s n (merge_if g d e n w).steps
+      → Stands m s g (merge_if g d e n w).walk.path (merge_if g d e n w).walk.slots (land k st)
+  open_if zero e n w zero st i h q ok = merge_stands e w n ok (At st) Off tt h q
+  open_if zero e n w (suc k) st i h q ok = absurd (omega (arith, i))
+  open_if (suc d) e n w zero st i h q ok = absurd (omega (arith, i))
+  open_if (suc d) e n w (suc k) st i h q ok = q
+
+  one_open : (es : List Entry) (n : ℕ) (w : Walk) (k : ℕ) (st : Store) → OneOpen m s g k st es → Stands m s g w.path w.slots Off → Solves m s n (merge_all g es n w).steps
+      → Stands m s g (merge_all g es n w).walk.path (merge_all g es n w).walk.slots (land k st)
+  one_open [] n w k st h q ok = absurd h
+  one_open (e ∷ es) n w k st (inl h) q ok =
+      let x = merge_if g e.depth e n w in
+      all_shut es (past n x.steps) x.walk (land k st) h.2 (open_if e.depth e n w k st h.0 h.1 q (solves_first m s g n x.steps _ ok)) (solves_second m s g n x.steps _ ok)
+  one_open (e ∷ es) n w k st (inr h) q ok =
+      let x = merge_if g e.depth e n w in
+      one_open es (past n x.steps) x.walk k st h.1 (shut_if e.depth e n w Off h.0 q (solves_first m s g n x.steps _ ok)) (solves_second m s g n x.steps _ ok)
+
+  outer_shut_if : (d : ℕ) (e : Entry) (es : List Entry) → Stands m s g e.path e.slots Off → AllShut m s g es → AllShut m s g (outer_if d e es)
+  outer_shut_if zero e es h k = k
+  outer_shut_if (suc d) e es h k = (h, k)
+
+  outer_shut : (es : List Entry) → AllShut m s g es → AllShut m s g (outer es)
+  outer_shut [] h = tt
+  outer_shut (e ∷ es) h = outer_shut_if e.depth e (outer es) h.0 (outer_shut es h.1)
+
+  outer_land : (es : List Entry) (st : Store) → OneOpen m s g zero st es → AllShut m s g (outer es)
+  outer_land [] st h = absurd h
+  outer_land (e ∷ es) st (inl h) = here e.depth h.0
+    where
+      here : (d : ℕ) → d ≡ zero → AllShut m s g (outer_if d e (outer es))
+      here zero i = outer_shut es h.2
+      here (suc d) i = absurd (omega (arith, i))
+  outer_land (e ∷ es) st (inr h) = outer_shut_if e.depth e (outer es) h.0 (outer_land es st h.1)
+
+  outer_open_if : (d n : ℕ) (st : Store) (e : Entry) (es : List Entry) → Stands m s g e.path e.slots Off → OneOpen m s g n st es → OneOpen m s g n st (outer_if d e es)
+  outer_open_if zero n st e es h k = k
+  outer_open_if (suc d) n st e es h k = inr (h, k)
+
+  outer_open : (es : List Entry) (n : ℕ) (st : Store) → OneOpen m s g (suc n) st es → OneOpen m s g n st (outer es)
+  outer_open [] n st h = absurd h
+  outer_open (e ∷ es) n st (inl h) = here e.depth h.0
+    where
+      here : (d : ℕ) → d ≡ suc n → OneOpen m s g n st (outer_if d e (outer es))
+      here zero i = absurd (omega (arith, i))
+      here (suc d) i = inl (omega (arith, i), h.1, outer_shut es h.2)
+  outer_open (e ∷ es) n st (inr h) = outer_open_if e.depth n st e (outer es) h.0 (outer_open es n st h.1)
+
+  -- the way behind a block's end
+  abbrev pub leave_come : Temps → Come Way → Come Way
+  leave_come t (Goes w p) = Goes (leave t w) p
+  leave_come t (Ends e p) = Ends e p
+
+  module _ (temps : ℕ → Operand) (n : ℕ) (o : walks.Out) (ok : Solves m s n (at_label g temps n o).steps) where
+    merges : Solves m s (past n o.steps) (merge_all g o.entries (past n o.steps) o.after).steps
+    merges = solves_second m s g n o.steps _ ok
+
+    pub label_shows : (t : Temps) (e : Come Way) → ((i : ℕ) → operand_value s (temps i) ≡ t i) → Shows m s g o e → Shows m s g (at_label g temps n o) (leave_come t e)
+    label_shows t (Goes (On c) p) same h = record {
+      after = record { stands = all_shut o.entries (past n o.steps) o.after (At p.store) h.entries h.after.stands merges; temps = same };
+      entries = outer_shut o.entries h.entries;
+      events = h.events;
+    }
+    label_shows t (Goes (Out zero) p) same h = record {
+      after = record { stands = one_open o.entries (past n o.steps) o.after zero p.store h.entries h.after.stands merges; temps = same };
+      entries = outer_land o.entries p.store h.entries;
+      events = h.events;
+    }
+    label_shows t (Goes (Out (suc k)) p) same h = record {
+      after = record { stands = one_open o.entries (past n o.steps) o.after (suc k) p.store h.entries h.after.stands merges; temps = tt };
+      entries = outer_open o.entries k p.store h.entries;
+      events = h.events;
+    }
+    label_shows t (Ends e p) same h = record {
+      after = record { stands = all_shut o.entries (past n o.steps) o.after Off h.entries h.after.stands merges; temps = tt };
+      entries = outer_shut o.entries h.entries;
+      events = h.events;
+    }
+
+    pub label_stops : Stops m s g o → Stops m s g (at_label g temps n o)
+    label_stops h = record {
+      after = all_shut o.entries (past n o.steps) o.after Off h.entries h.after merges;
+      entries = outer_shut o.entries h.entries;
+      events = h.events;
+    }
