@@ -1,3 +1,4 @@
 pub mod Shows
 pub mod Labels
 pub mod Slots
+pub mod Acts
