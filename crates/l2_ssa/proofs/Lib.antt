@@ -2,3 +2,4 @@ pub mod Shows
 pub mod Labels
 pub mod Slots
 pub mod Acts
+pub mod Reaches
