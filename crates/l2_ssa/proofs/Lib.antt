@@ -3,3 +3,5 @@ pub mod Labels
 pub mod Slots
 pub mod Acts
 pub mod Reaches
+pub mod Frames
+pub mod Instructions
