@@ -5,3 +5,4 @@ pub mod Acts
 pub mod Reaches
 pub mod Frames
 pub mod Instructions
+pub mod Heads
