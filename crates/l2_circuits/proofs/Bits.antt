@@ -1,7 +1,7 @@
 -- Words that are made bit by bit without a gate.
-use Rattle.std.proofs.Common.{◌≡◌, ℕ, zero, suc, ◌+◌, ◌-◌, ◌<◌, ◌/◌, ◌%◌, ◌==◌, ℤ, List, [], ◌∷◌, ◌++◌, length, get_or, drop, Option, Some, slice_get, refl, sym, ap, ◌∙◌, subst, arith, add-one, append_assoc}
-use Rattle.std.proofs.lemmas.List.{map-append}
-use Rattle.l2_gates.specs.Gates.{Lit, literal_of, literals_of}
+use Rattle.std.proofs.Common.{◌≡◌, ℕ, zero, suc, ◌+◌, ◌-◌, ◌<◌, ◌/◌, ◌%◌, ◌==◌, ℤ, List, [], ◌∷◌, ◌++◌, length, get_or, drop, replicate, Some, slice_get, refl, sym, ap, ◌∙◌, arith, add-one, append_assoc}
+use Rattle.std.proofs.lemmas.List.{map-append, length-map, drop-map}
+use Rattle.l2_gates.specs.Gates.{Lit, F, literal_of, literals_of}
 use Rattle.l2_circuits.specs.Words.{top, resized, digits, literal_if}
 
 top_at : (a : List ℤ) (i : ℕ) (x : ℤ) → suc i ≡ length a → Some x ≡ slice_get a i → top (literals_of a) ≡ literal_of x
@@ -47,3 +47,20 @@ digits_more width i left bit word next whole h n e inv =
     ∙ ap (λ x. literals_of word ++ x ∷ rest) e
     ∙ ap (λ n. literals_of word ++ digits n left) q
     ∙ inv
+
+pub literals_length : (a : List ℤ) → length (literals_of a) ≡ length a
+literals_length a = length-map a literal_of
+
+pub literals_drop : (a : List ℤ) (n : ℕ) → drop n (literals_of a) ≡ literals_of (drop n a)
+literals_drop a n = drop-map literal_of n a
+
+pub literals_append : (a b : List ℤ) → literals_of (a ++ b) ≡ literals_of a ++ literals_of b
+literals_append a b = map-append literal_of a b
+
+-- one more literal that is false
+pub falses_more : (k i : ℕ) (bit : ℤ) (word next : List ℤ) (whole : List Lit) → i < k → next ≡ word ++ bit ∷ [] → literal_of bit ≡ F
+    → literals_of word ++ replicate (k - i) F ≡ whole → literals_of next ++ replicate (k - (i + 1)) F ≡ whole
+falses_more k i bit word next whole h n e inv =
+    let rest = replicate (k - (i + 1)) F in
+    let q : suc (k - (i + 1)) ≡ k - i = omega arith in
+    ap (λ w. literals_of w ++ rest) n ∙ pushed word bit rest ∙ ap (λ x. literals_of word ++ x ∷ rest) e ∙ ap (λ m. literals_of word ++ replicate m F) q ∙ inv

@@ -1,5 +1,5 @@
 -- Circuits of shifts, by an amount bit after bit.
-use Rattle.std.specs.Prelude.{ℕ, zero, suc, ◌+◌, nat_lt, Bool, true, false, if◌then◌else◌, List, [], ◌∷◌, ◌++◌, length, drop, replicate}
+use Rattle.std.specs.Prelude.{ℕ, ◌+◌, nat_lt, Bool, if◌then◌else◌, List, [], ◌∷◌, ◌++◌, length, drop, replicate}
 use Rattle.l2_gates.specs.Gates.{Lit, F, Made, literal_of, number_of}
 use Rattle.l2_circuits.specs.declared.shifts.Direction.{Direction}
 use Rattle.l2_circuits.specs.declared.shifts.Direction.TheVariants.{Up, Down}

@@ -76,12 +76,7 @@ fn divide_bit(
 }
 
 /// The quotient by a divisor that has one bit more, and what is left.
-fn divide_by(
-    alloc: Global,
-    gates: &mut Gates,
-    a: &[Lit],
-    b: &[Lit],
-) -> Result<Quotient, AllocError>
+fn divide_by(alloc: Global, gates: &mut Gates, a: &[Lit], b: &[Lit]) -> Result<Quotient, AllocError>
     ensures quotient { IfOk result (λ d. literals_of d.quotient.items ≡ (divide_by (literals_of a.now) (literals_of b.now) gates.old).quotient) }
     ensures rest { IfOk result (λ d. literals_of d.rest.items ≡ (divide_by (literals_of a.now) (literals_of b.now) gates.old).rest) }
     ensures made { OnOk result (gates.new ≡ (divide_by (literals_of a.now) (literals_of b.now) gates.old).made) }
@@ -99,6 +94,7 @@ fn divide_by(
 }
 
 /// The quotient without signs, and what is left.
+#[tactic(auto, using(crate::proofs::Bits::literals_length))]
 pub fn divide(
     alloc: Global,
     gates: &mut Gates,

@@ -1,4 +1,3 @@
-use Rattle.std.proofs.Common.{rules, ◌≡◌}
 use Rattle.l2_circuits.proofs.Bits.{digits_more}
 use Rattle.l2_circuits.proofs.literals.digits.Goals as goal
 

@@ -1,4 +1,3 @@
-use Rattle.std.proofs.Common.{rules, ◌≡◌}
 use Rattle.l2_circuits.proofs.Bits.{resized_more}
 use Rattle.l2_circuits.proofs.literals.resized.Goals as goal
 

@@ -1,4 +1,4 @@
-use Rattle.std.proofs.Common.{rules, ◌≡◌, sym}
+use Rattle.std.proofs.Common.{sym}
 use Rattle.l2_circuits.proofs.Bits.{top_of}
 use Rattle.l2_circuits.proofs.literals.top.Goals as goal
 

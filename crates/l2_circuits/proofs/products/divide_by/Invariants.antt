@@ -1,6 +1,6 @@
 use Rattle.std.proofs.Common.{◌≡◌, ◌-◌, drop, length, reverse}
 use Rattle.l2_gates.specs.Gates.{literals_of}
-use Rattle.l2_circuits.specs.Products.{Divided, divide_by}
+use Rattle.l2_circuits.specs.Products.{divide_by}
 use Rattle.l2_circuits.proofs.products.divide_by.Given as goal
 
 abbrev pub invariant-loop-i : goal.invariant-loop-i
