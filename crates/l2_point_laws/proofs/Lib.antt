@@ -1,3 +1,4 @@
 pub mod Weaker
 pub mod TreeWeaker
 pub mod Reaching
+pub mod Greedy
