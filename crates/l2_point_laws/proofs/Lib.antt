@@ -1,3 +1,4 @@
+pub mod Rows
 pub mod Weaker
 pub mod TreeWeaker
 pub mod Reaching
