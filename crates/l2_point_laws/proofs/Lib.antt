@@ -3,3 +3,4 @@ pub mod Weaker
 pub mod TreeWeaker
 pub mod Reaching
 pub mod Greedy
+pub mod TreeRows
