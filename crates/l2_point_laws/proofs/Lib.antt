@@ -4,3 +4,4 @@ pub mod TreeWeaker
 pub mod Reaching
 pub mod Greedy
 pub mod TreeRows
+pub mod Falling

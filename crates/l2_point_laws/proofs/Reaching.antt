@@ -63,10 +63,10 @@ uncounted l (t ∷ ts) a s = one (t.holds a s.store) refl (uncounted l ts a s)
     one true e (inr h) = inr (ap (λ b. on_go (demand false (Fallen l t.row) b s) (λ u. events false l ts a)) e ∙ h)
     one false e r = inr (ap (λ b. on_go (demand false (Fallen l t.row) b s) (λ u. events false l ts a)) e)
 
-same_number : (m : ℕ) → (m == m) ≡ true
+pub same_number : (m : ℕ) → (m == m) ≡ true
 same_number m = grind arith
 
-equal_numbers : (m l : ℕ) → (m == l) ≡ true → m ≡ l
+pub equal_numbers : (m l : ℕ) → (m == l) ≡ true → m ≡ l
 equal_numbers m l h = grind (arith, h)
 
 module _ (a b : List LoopPoint) (strong : IsStronger a b) (l : ℕ) (passes : Store → Bool) (held : (st : Store) → holds (point_at b l) (values_of st) ≡ true → passes st ≡ true) where
