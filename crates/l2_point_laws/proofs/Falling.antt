@@ -1,11 +1,11 @@
 -- A run that fails a row comes to an end of a turn where this row doesn't hold.
-use Rattle.std.proofs.Common.{◌≡◌, ℕ, zero, suc, ◌+◌, ℤ, Bool, true, false, List, [], ◌∷◌, ◌++◌, length, map, Option, Some, None, ◌⊎◌, inl, inr, refl, sym, ap, ◌∙◌, subst, if◌then◌else◌, arith}
+use Rattle.std.proofs.Common.{◌≡◌, ℕ, zero, suc, ◌+◌, ℤ, Bool, true, false, List, [], ◌∷◌, ◌++◌, length, map, inl, inr, refl, sym, ap, ◌∙◌, subst, if◌then◌else◌, arith}
 use Rattle.std.specs.Prelude.{◌==◌, slice_get}
 use Rattle.l2_runs.specs.declared.member.Member.{Member}
 use Rattle.l2_runs.specs.Numbers.{at_number}
 use Rattle.l2_runs.specs.Store.{Store}
-use Rattle.l2_runs.specs.Runs.{State, End, Over, Fallen, Result, Go, Halt, on_go, demand}
-use Rattle.l2_runs.specs.Loops.{Test, Tests, numbered, events}
+use Rattle.l2_runs.specs.Runs.{Over, Fallen, Result, Go, Halt, on_go, demand}
+use Rattle.l2_runs.specs.Loops.{numbered, events}
 use Rattle.l2_run_laws.specs.Watches.{alone}
 use Rattle.l2_run_laws.proofs.CutRuns.{EndsIn}
 use Rattle.l2_run_laws.proofs.Agreeing.{FallsNow, Alike, TestsAgree}
@@ -13,9 +13,8 @@ use Rattle.l2_program.specs.Programs.{ProgramTree}
 use Rattle.l2_templates.specs.declared.form.Row.{Row}
 use Rattle.l2_templates.specs.declared.point.LoopPoint.{LoopPoint}
 use Rattle.l2_templates.specs.declared.point.LoopPoint.TheVariants.{Bottom, Rows}
-use Rattle.l2_templates.specs.Forms.{row_holds}
 use Rattle.l2_meaning.specs.Execution.{cells_of, calls_of, run_program, main_among}
-use Rattle.l2_cuts.specs.Points.{values_of, point_at, row_test, rows_of, starts}
+use Rattle.l2_cuts.specs.Points.{point_at, row_test, rows_of, starts}
 use Rattle.l2_cuts.specs.Cuts.{mods_of, cut_limit, rows_at, row_end}
 use Rattle.l2_cuts.specs.Strongest.{before_rows, Reaches, passes_row, row_passes}
 use Rattle.l2_cut_laws.proofs.Following.{start, end_of, ends_in}
@@ -110,9 +109,9 @@ module _ (p : ProgramTree) (sets : ℕ → Member → Bool) (k : ℕ) (q : List 
 
     comes : row_end p sets k q cs ≡ Fallen l row → EndsIn x (Fallen l last)
     comes h = elim (agreeing p (cut_limit p sets k q) Asked (before_rows q l passes) (alone (rows_at q)) asked cs 0) [
-        | inl e ↦ same_end x blamed (subst (λ r. EndsIn r (Fallen l row)) (sym e) (ends_in cs 0 y (Fallen l row) (λ e. cc) h))
-        | inr f ↦ asked_end x f.1
-      ]
+      | inl e ↦ same_end x blamed (subst (λ r. EndsIn r (Fallen l row)) (sym e) (ends_in cs 0 y (Fallen l row) (λ e. cc) h))
+      | inr f ↦ asked_end x f.1
+    ]
 
 pub falling : (p : ProgramTree) (sets : ℕ → Member → Bool) (k : ℕ) (q : List LoopPoint) (l row : ℕ) (cs : List ℤ) → row_end p sets k q cs ≡ Fallen l row → Reaches p sets k q l (row_passes (point_at q l) row)
 falling p sets k q l row cs h = (cs, end_of cs 0 (x p sets k q l row cs) (Fallen l (last p sets k q l row cs)) (comes p sets k q l row cs h))

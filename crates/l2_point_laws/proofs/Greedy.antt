@@ -1,15 +1,15 @@
 -- Where each loop has its greedy list, the lists rank the loops.
-use Rattle.std.proofs.Common.{◌≡◌, ℕ, zero, suc, ◌+◌, ◌<◌, ◌≤◌, ℤ, int_lt, Bool, true, false, cond, List, [], ◌∷◌, ◌++◌, length, Option, Some, None, ◌⊎◌, inl, inr, refl, sym, ap, ◌∙◌, subst, if◌then◌else◌, arith}
-use Rattle.std.specs.Prelude.{◌==◌, ◌&&◌, not, nat_le, slice_get}
+use Rattle.std.proofs.Common.{◌≡◌, ℕ, zero, suc, ◌<◌, ◌≤◌, ℤ, int_lt, Bool, true, false, cond, List, [], ◌∷◌, ◌++◌, length, Some, ◌⊎◌, inl, inr, refl, sym, ap, ◌∙◌, subst, if◌then◌else◌, arith}
+use Rattle.std.specs.Prelude.{◌==◌, ◌&&◌, not, nat_le}
 use Rattle.std.specs.Ordering.{int_eq}
 use Rattle.std.proofs.lemmas.Int.{ints}
 use native.Mathlib.Decide.{dec_lt}
 use Rattle.l2_runs.specs.declared.member.Member.{Member}
 use Rattle.l2_runs.specs.Numbers.{at_number}
 use Rattle.l2_runs.specs.Store.{Store}
-use Rattle.l2_runs.specs.Runs.{State, Over, Fallen, Result, Go, Halt}
-use Rattle.l2_runs.specs.Loops.{Test, events}
-use Rattle.l2_run_laws.specs.Watches.{HoldAll, alone, with_watches}
+use Rattle.l2_runs.specs.Runs.{Fallen}
+use Rattle.l2_runs.specs.Loops.{events}
+use Rattle.l2_run_laws.specs.Watches.{HoldAll, alone}
 use Rattle.l2_run_laws.proofs.Judging.{FailsAt, hold_alone, hold_before, judge}
 use Rattle.l2_run_laws.proofs.Agreeing.{Any, NoneOf, FallsNow, Alike, TestsAgree, falls_so, falls_too}
 use Rattle.l2_run_laws.proofs.Meeting.{TestsMeet}
@@ -17,12 +17,12 @@ use Rattle.l2_program.specs.declared.program.LoopInfo.{LoopInfo}
 use Rattle.l2_program.specs.Programs.{ProgramTree}
 use Rattle.l2_templates.specs.declared.form.Form.{Form}
 use Rattle.l2_templates.specs.declared.point.LoopPoint.{LoopPoint}
-use Rattle.l2_templates.specs.declared.point.LoopPoint.TheVariants.{Bottom, Rows}
+use Rattle.l2_templates.specs.declared.point.LoopPoint.TheVariants.{Bottom}
 use Rattle.l2_templates.specs.Forms.{row_value, lower_than}
 use Rattle.l2_meaning.specs.Execution.{run_program}
-use Rattle.l2_cuts.specs.Points.{values_of, point_at, rows_of, starts, ranks_at, lowers}
+use Rattle.l2_cuts.specs.Points.{values_of, point_at, rows_of, ranks_at, lowers}
 use Rattle.l2_cuts.specs.Cuts.{cut_limit, rows_at, watch, watched, cut_end, row_end, Infers, TurnsPass, RankProves}
-use Rattle.l2_cuts.specs.Rankings.{keeps, rises, falls, keep_all, unless_so, NoTurn, Serves, IsFirstServing, candidates, IsGreedy, IsLoop, RanksAre}
+use Rattle.l2_cuts.specs.Rankings.{keeps, rises, falls, keep_all, unless_so, Serves, IsFirstServing, candidates, IsGreedy, RanksAre}
 use Rattle.l2_cut_laws.proofs.PointFacts.{hold_append, hold_left, hold_right}
 use Rattle.l2_cut_laws.proofs.Following.{start, end_of, fell, is_fallen}
 use Rattle.l2_cut_laws.proofs.Consequences.{agreeing, none_fall}
@@ -56,10 +56,10 @@ module _ (p : ProgramTree) (sets : ℕ → Member → Bool) (k : ℕ) (q : List 
           by_watch : HoldAll (rows_at q l) a s.store → HoldAll (watch q w l) a s.store ⊎ FailsAt l a s.store (watch q w l) → Alike Any true (events true l (rows_at q l ++ watch q w l) a s) (events true l (rows_at q l ++ watch q v l) a s)
           by_watch h (inr f) = inr (refl, subst (λ r. FallsNow Any r) (sym (hold_before l a s.store true (rows_at q l) (watch q w l) h s.choices s ∙ f.alone s.choices s)) tt)
           by_watch h (inl j) = elim (weaker l a s.store) [
-              | inl e ↦ absurd (bottom_holds (point_at q l) a s.store e h)
-              | inr m ↦ inl (hold_before l a s.store true (rows_at q l) (watch q w l) h s.choices s ∙ hold_alone l a s.store true (watch q w l) j s.choices s
-                  ∙ sym (hold_before l a s.store true (rows_at q l) (watch q v l) h s.choices s ∙ hold_alone l a s.store true (watch q v l) (m j.0, tt) s.choices s))
-            ]
+            | inl e ↦ absurd (bottom_holds (point_at q l) a s.store e h)
+            | inr m ↦ inl (hold_before l a s.store true (rows_at q l) (watch q w l) h s.choices s ∙ hold_alone l a s.store true (watch q w l) j s.choices s
+                ∙ sym (hold_before l a s.store true (rows_at q l) (watch q v l) h s.choices s ∙ hold_alone l a s.store true (watch q v l) (m j.0, tt) s.choices s))
+          ]
 
           by_rows : HoldAll (rows_at q l) a s.store ⊎ FailsAt l a s.store (rows_at q l) → Alike Any true (events true l (rows_at q l ++ watch q w l) a s) (events true l (rows_at q l ++ watch q v l) a s)
           by_rows (inr f) = inl (f.before (watch q w l) s.choices s ∙ sym (f.before (watch q v l) s.choices s))
@@ -157,8 +157,8 @@ module _ (p : ProgramTree) (sets : ℕ → Member → Bool) (k : ℕ) (q : List 
   greedy_pass l fs (g ∷ gs) h =
       of_both (unless_so l (λ a b. keep_all fs a b && rises g a b)) (unless_so l (left (fs ++ g ∷ []) gs)) (unless_so l (left fs (g ∷ gs)))
       (λ m a b. by_loop m l (keep_all fs a b && rises g a b) (left (fs ++ g ∷ []) gs a b) (left fs (g ∷ gs) a b)
-          (λ x y. turn_lowers (keep_all fs a b) (keeps g a b) (rises g a b) (falls g a b) (lower_than gs (values_of a) (values_of b)) (three_ways (row_value g (values_of a)) (row_value g (values_of b))) x
-              (subst (λ z. not (z && not (lower_than gs (values_of a) (values_of b))) ≡ true) (keep_more fs g a b) y)))
+      (λ x y. turn_lowers (keep_all fs a b) (keeps g a b) (rises g a b) (falls g a b) (lower_than gs (values_of a) (values_of b)) (three_ways (row_value g (values_of a)) (row_value g (values_of b))) x
+      (subst (λ z. not (z && not (lower_than gs (values_of a) (values_of b))) ≡ true) (keep_more fs g a b) y)))
       (serving l fs (candidates p l) g h.0).0 (greedy_pass l (fs ++ g ∷ []) gs h.1)
 
   -- ---- all loops

@@ -1,8 +1,8 @@
 -- What runs under a stronger point come to holds at a weaker one that infers.
-use Rattle.std.proofs.Common.{◌≡◌, ℕ, zero, suc, ◌+◌, ◌<◌, ◌≤◌, ℤ, Bool, true, false, List, [], ◌∷◌, ◌++◌, length, map, Option, Some, None, ◌⊎◌, inl, inr, refl, sym, ap, ◌∙◌, subst, if◌then◌else◌, arith}
+use Rattle.std.proofs.Common.{◌≡◌, ℕ, suc, ◌+◌, ◌<◌, Bool, true, false, List, [], ◌∷◌, ◌++◌, length, map, ◌⊎◌, inl, inr, refl, sym, ap, ◌∙◌, subst, if◌then◌else◌, arith}
 use Rattle.std.specs.Prelude.{◌==◌}
 use Rattle.l2_runs.specs.declared.member.Member.{Member}
-use Rattle.l2_runs.specs.declared.outcome.Outcome.TheVariants.{Ended, Stopped}
+use Rattle.l2_runs.specs.declared.outcome.Outcome.TheVariants.{Stopped}
 use Rattle.l2_runs.specs.Store.{Store}
 use Rattle.l2_runs.specs.Runs.{State, End, Over, Fallen, Result, Go, Halt, on_go, demand}
 use Rattle.l2_runs.specs.Loops.{Test, numbered, events}
@@ -17,11 +17,11 @@ use Rattle.l2_templates.specs.declared.point.LoopPoint.TheVariants.{Bottom, Rows
 use Rattle.l2_templates.specs.Points.{holds, IsStronger}
 use Rattle.l2_meaning.specs.Execution.{cells_of, calls_of, run_program, main_among}
 use Rattle.l2_cuts.specs.Points.{values_of, point_at, row_test, rows_of, starts}
-use Rattle.l2_cuts.specs.Cuts.{mods_of, cut_limit, rows_at, row_end, Infers}
-use Rattle.l2_cuts.specs.Strongest.{asked_first, before_rows, Reaches}
+use Rattle.l2_cuts.specs.Cuts.{mods_of, cut_limit, rows_at, Infers}
+use Rattle.l2_cuts.specs.Strongest.{before_rows, Reaches}
 use Rattle.l2_cut_laws.proofs.PointFacts.{rows_from, stronger_starts, stronger_tests}
 use Rattle.l2_cut_laws.proofs.Following.{start, ends_in, has_fallen}
-use Rattle.l2_point_laws.proofs.Weaker.{WeakerAt, Weaker, then_weaker, same_weaker, start_weaker}
+use Rattle.l2_point_laws.proofs.Weaker.{WeakerAt, then_weaker, same_weaker, start_weaker}
 use Rattle.l2_point_laws.proofs.TreeWeaker.{main_weaker}
 
 -- ---- numbers of rows
@@ -126,6 +126,6 @@ reaching p sets k a b strong infers l passes held (cs, h) =
     let y = run_program p (cut_limit p sets k b) (alone (rows_at b)) (start p cs 0) in
     let W : ℕ → ℕ → Type 0 = Asked a b strong l passes held in
     let m = (main_weaker W k (back (cells_of p) sets (mods_of p) (starts a)) (back (cells_of p) sets (mods_of p) (starts b)) (before_rows a l passes) (alone (rows_at b))
-        (λ m. then_weaker W (same_weaker W (scatter (cells_of p) sets (mods_of p m))) (λ u. start_weaker W (starts a m) (starts b m) (stronger_starts a b strong m)))
-        (tests_weaker a b strong l passes held) true (cells_of p) (calls_of p (cut_limit p sets k a) (before_rows a l passes) (length p.functions)) (calls_of p (cut_limit p sets k b) (alone (rows_at b)) (length p.functions)) (main_among p.names p.functions)).by (start p cs 0) in
+    (λ m. then_weaker W (same_weaker W (scatter (cells_of p) sets (mods_of p m))) (λ u. start_weaker W (starts a m) (starts b m) (stronger_starts a b strong m)))
+    (tests_weaker a b strong l passes held) true (cells_of p) (calls_of p (cut_limit p sets k a) (before_rows a l passes) (length p.functions)) (calls_of p (cut_limit p sets k b) (alone (rows_at b)) (length p.functions)) (main_among p.names p.functions)).by (start p cs 0) in
     infers cs (has_fallen cs 0 y (ends_fallen W x y l (length (rows_at a l) + 1) m (refl, refl) (ends_in cs 0 x (Fallen l (length (rows_at a l) + 1)) (λ e. cc) h)))

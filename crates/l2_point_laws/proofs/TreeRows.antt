@@ -1,22 +1,21 @@
 -- At which row a run of a tree falls.
-use Rattle.std.proofs.Common.{ℕ, suc, ℤ, Bool, true, List, [], ◌∷◌, Option, Some, None}
+use Rattle.std.proofs.Common.{ℕ, suc, Bool, true, List, [], ◌∷◌, Option, Some, None}
 use Rattle.std.specs.Prelude.{not}
 use Rattle.l2_runs.specs.declared.cells.CellType.{CellType}
 use Rattle.l2_runs.specs.declared.cells.CellType.TheVariants.{Integer, Pointer}
 use Rattle.l2_runs.specs.declared.cells.CellValue.{CellValue}
 use Rattle.l2_runs.specs.declared.member.Member.{Member}
-use Rattle.l2_runs.specs.declared.outcome.Outcome.TheVariants.{Ended}
 use Rattle.l2_runs.specs.Store.{Store, Address}
 use Rattle.l2_runs.specs.Fits.{Layout}
 use Rattle.l2_runs.specs.Members.{is_in}
 use Rattle.l2_runs.specs.Back.{on_member, pointer_of, any_value, scatter_cells, scatter, back}
-use Rattle.l2_runs.specs.Runs.{Over, Run, and_then, done, over, stop, either, choose, write, enliven, bury, bury_all, check}
+use Rattle.l2_runs.specs.Runs.{Run, and_then, done, stop, write, enliven, bury, bury_all}
 use Rattle.l2_runs.specs.Loops.{Limit, Tests}
-use Rattle.l2_runs.specs.Operators.{unary, binary, unary_overflows, binary_overflows}
-use Rattle.l2_point_laws.proofs.Rows.{Blames, Rows, LimitRows, then_rows, done_rows, choose_rows, check_rows, either_rows, loop_rows}
+use Rattle.l2_runs.specs.Operators.{unary_overflows, binary_overflows}
+use Rattle.l2_point_laws.proofs.Rows.{Rows, LimitRows, then_rows, done_rows, choose_rows, check_rows, either_rows, loop_rows}
 use Rattle.l2_program.specs.Checked.{Object, TypedTree, Constant, Choice, Read, Unary, Binary, Convert, Assign, Assert, CheckedTree, Block, Declare, Static, Initialise, Label, Evaluate, If, IfElse, While, Return, CheckedTrees, none, more}
 use Rattle.l2_program.specs.Programs.{FunctionTree}
-use Rattle.l2_meaning.specs.Meaning.{Value, Ending, Next, Broke, Continued, Returned, Jumping, Calls, Setting, number, number_of, holds, write_cells, put, first_of, fresh, fill, declare, value, declared, past, or_rest, to_turn, while_turn, tree_loop, act, act_all}
+use Rattle.l2_meaning.specs.Meaning.{Value, Ending, Next, Broke, Continued, Returned, Jumping, Calls, Setting, number_of, holds, write_cells, fresh, fill, declare, value, declared, past, or_rest, to_turn, while_turn, tree_loop, act, act_all}
 use Rattle.l2_meaning.specs.Execution.{declare_all, enter}
 
 module _ (tests : Tests) where
