@@ -9,3 +9,4 @@ pub mod Spaces
 pub mod Stands
 pub mod Unique
 pub mod Whole
+pub mod Written

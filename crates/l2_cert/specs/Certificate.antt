@@ -94,6 +94,11 @@ loop_lines i (Rows rows) = rows_line i (length rows) ∷ map row_line rows
 abbrev pub rank_lines : ℕ → List Form → List (List Word)
 rank_lines i forms = ranks_line i (length forms) ∷ map rank_line forms
 
+-- a loop, and the first of these rankings behind it where there is one
+abbrev pub entry_lines : ℕ → LoopPoint → List (List Form) → List (List Word)
+entry_lines i p [] = loop_lines i p
+entry_lines i p (forms ∷ ranks) = loop_lines i p ++ rank_lines i forms
+
 -- each loop from number i on, its ranking behind it where it has one
 abbrev pub loops_lines : ℕ → List LoopPoint → List (List Form) → List (List Word)
 loops_lines i [] ranks = []

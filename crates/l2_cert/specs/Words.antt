@@ -1,6 +1,6 @@
 -- A line as its words, which are parted by one space.
-use Rattle.std.specs.Prelude.{◌≢◌, ℕ, ◌==◌, if◌then◌else◌, List, [], ◌∷◌, ◌++◌}
-use Rattle.std.specs.List.{All}
+use Rattle.std.specs.Prelude.{◌≢◌, ℕ, ◌==◌, if◌then◌else◌, List, [], ◌∷◌, ◌++◌, map}
+use Rattle.std.specs.List.{All, concat}
 use Rattle.l2_lines.specs.Lines.{ended}
 
 abbrev pub Word : Type 0
@@ -32,3 +32,7 @@ IsWord word = All (λ b. (b ≢ 32) × (b ≢ 10)) word
 -- the line of some words
 abbrev pub line_of : List Word → List ℕ
 line_of words = ended (spaced words)
+
+-- the text of some lines
+abbrev pub text_of : List (List Word) → List ℕ
+text_of lines = concat (map line_of lines)

@@ -12,6 +12,8 @@ mod reader;
 mod reading;
 mod steps;
 mod words;
+mod writer;
 
 pub use cert::{Cert, CertError, CertKind};
 pub use reader::read;
+pub use writer::write;

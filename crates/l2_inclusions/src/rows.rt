@@ -152,6 +152,19 @@ impl Rows {
         self.at.truncate(nodes);
     }
 
+    /// The sets.
+    pub fn into_sets(self) -> Vec<PointsTo>
+        ensures { result.items ≡ self.sets }
+    {
+        let Rows {
+            alloc: _,
+            sets,
+            at: _,
+            known: _,
+        } = self;
+        sets
+    }
+
     // Takes a set that isn't known.
     fn keep(&mut self, members: Vec<Member>) -> Result<u32, AllocError>
         requires { Rises members.items }

@@ -6,9 +6,10 @@ ghost use Rattle.l2_inclusions.specs.Closing.{AreForced};
 
 use crate::build::build;
 use crate::closed::is_closed;
-use crate::inclusion::Inclusion;
+use crate::inclusion::{Inclusion, object_node};
 use crate::rows::Rows;
 use crate::settle::settle;
+use l2_runs::Member;
 use std::alloc::{AllocError, Global};
 
 // Gives a node a member that an inclusion asks.
@@ -44,11 +45,27 @@ fn round(alloc: Global, inclusions: &[Inclusion], rows: &mut Rows) -> Result<(),
     Ok(())
 }
 
+// One more than the nodes that an inclusion names. No promise rests on it.
+fn nodes_of(inclusion: Inclusion) -> usize {
+    let last = match inclusion {
+        Inclusion::Has(node, Member::Object(object)) => node.max(object_node(object)),
+        Inclusion::Has(node, _) => node,
+        Inclusion::Copies(a, b) => a.max(b),
+        Inclusion::Loads(a, b) => a.max(b),
+        Inclusion::Stores(a, b) => a.max(b),
+    };
+    last.saturating_add(1)
+}
+
 /// The least sets of nodes that are closed under inclusions. It goes on in rounds until they are closed.
-pub fn least(alloc: Global, inclusions: &[Inclusion], nodes: usize) -> Result<Rows, AllocError>
+pub fn least(alloc: Global, inclusions: &[Inclusion]) -> Result<Rows, AllocError>
     ensures closed { IfOk result (λ r. IsClosed (set_at r) inclusions.now) }
     ensures least { IfOk result (λ r. AreForced inclusions.now r) }
 {
+    let mut nodes = 0;
+    for inclusion in inclusions {
+        nodes = nodes.max(nodes_of(*inclusion));
+    }
     let mut rows = Rows::new(alloc, nodes)?;
     for i in 0..inclusions.len() {
         take(alloc, inclusions, i, &mut rows)?;

@@ -1,11 +1,9 @@
 -- Runs on lists of choices and by supplies agree where their parts do.
-use Rattle.std.proofs.Common.{◌≡◌, refl, sym, ap, subst, ◌∙◌, ℕ, zero, suc, ℤ, pos, Bool, true, false, List, [], ◌∷◌, ◌++◌, append_assoc, Option, Some, None}
-use Rattle.std.specs.Prelude.{◌||◌, ◌==◌}
-use Rattle.l2_runs.specs.declared.outcome.Outcome.TheVariants.{Ended, Stopped, Broken, OutOfChoices, OutOfTurns}
+use Rattle.std.proofs.Common.{◌≡◌, refl, sym, ap, subst, ◌∙◌, ℕ, ℤ, List, [], ◌∷◌, ◌++◌, append_assoc}
 use Rattle.l2_runs.specs.Store.{Store}
-use Rattle.l2_runs.specs.Runs.{State, End, Over, Fallen, Result, Go, Halt, Run, on_go, and_then, done, stop, either, take_choice, choose}
-use Rattle.l2_supply.specs.Going.{goes, seen}
-use Rattle.l2_supply.specs.Supply.{Supply, nil, one, two, number_of, left, right, Place, place_of, at, Come, Goes, Ends, Supplied, on_goes, then_with, come_of, without, with_choice, result_of, Chosen, IsFailure, IsSupplied, Agrees}
+use Rattle.l2_runs.specs.Runs.{State, Result, Go, Halt, Run, on_go, and_then, done, take_choice, choose}
+use Rattle.l2_supply.specs.Going.{seen}
+use Rattle.l2_supply.specs.Supply.{Supply, nil, one, two, number_of, left, right, Place, place_of, at, Come, Goes, Ends, Supplied, on_goes, then_with, come_of, without, with_choice, result_of, Chosen, IsSupplied, Agrees}
 
 -- ---- one after another
 
@@ -70,3 +68,25 @@ seen_agrees f r q h = record { by_supply = λ p u. chosen (q u p) (h.by_supply p
 
 pub run_agrees : {A : Type 0} (r x : Run A) (q : Supplied A) → ((s : State) → r s ≡ x s) → Agrees r q → Agrees x q
 run_agrees r x q e h = subst (λ y. Agrees y q) (λ i s. e s i) h
+
+-- what follows by a run that takes no choice, which looks at the store from before
+found_at : {A : Type 0} (f : Supply → Come A) (u : Supply) (c : Come A) (cs : List ℤ) (turns : ℕ) → f u ≡ c → IsSupplied f (result_of c cs turns)
+found_at f u (Goes a p) cs turns e = (u, e)
+found_at f u (Ends end p) cs turns e = λ k. (u, e)
+
+module _ {A B : Type 0} (r : Run A) (q : Supplied A) (f : Store → A → Run B) (none : (st : Store) (a : A) → TakesNone (f st a)) (same : Agrees r q) where
+  abbrev pub after : Supplied B
+  after u p = on_goes (q u p) (λ a. without (f p.store a) u)
+
+  chosen_after : (p : Place) (u : Supply) (c : Come A) → Chosen r p c → Chosen (λ s. on_go (r s) (f s.store)) p (on_goes c (λ a. without (f p.store a) u))
+  chosen_after p u (Goes a p') c = record { choices = c.choices; comes = λ rest t. ap (λ x. on_go x (f p.store)) (c.comes rest t) ∙ (none p.store a).same p' rest t }
+  chosen_after p u (Ends e p') c = record { choices = c.choices; comes = λ rest t. ap (λ x. on_go x (f p.store)) (c.comes rest t) }
+
+  supplied_after : (p : Place) (x : Result A) → IsSupplied (λ u. q u p) x → IsSupplied (λ u. after u p) (on_go x (f p.store))
+  supplied_after p (Go a s) i =
+      subst (IsSupplied (λ u. after u p)) (sym ((none p.store a).same (place_of s) s.choices s.turns))
+      (found_at (λ u. after u p) i.0 (come_of (f p.store a (at (place_of s) [] 0))) s.choices s.turns (ap (λ c. on_goes c (λ a. without (f p.store a) i.0)) i.1))
+  supplied_after p (Halt e s) i = λ k. let j = i k in (j.0, ap (λ c. on_goes c (λ a. without (f p.store a) j.0)) j.1)
+
+  pub after_agrees : Agrees (λ s. on_go (r s) (f s.store)) after
+  after_agrees = record { by_supply = λ p u. chosen_after p u (q u p) (same.by_supply p u); by_choices = λ s. supplied_after (place_of s) (r s) (same.by_choices s) }

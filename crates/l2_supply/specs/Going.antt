@@ -1,5 +1,5 @@
 -- The runs of code by a supply, cut and short ones.
-use Rattle.std.specs.Prelude.{◌≡◌, ℕ, zero, suc, ℤ, pos, Bool, true, false, List, [], ◌∷◌, Option, Some, None}
+use Rattle.std.specs.Prelude.{ℕ, zero, suc, pos, Bool, true, false, List, [], ◌∷◌, Option, Some, None}
 use Rattle.std.specs.Ordering.{int_eq}
 use Rattle.l2_bits.specs.Values.{wrap}
 use Rattle.l2_runs.specs.declared.cells.CellType.{CellType}
@@ -15,13 +15,11 @@ use Rattle.l2_runs.specs.Loops.{Limit, Tests, or_events, tally}
 use Rattle.l2_runs.specs.Back.{pointer_of, on_member, back}
 use Rattle.l2_code.specs.declared.action.Action.{Action}
 use Rattle.l2_code.specs.declared.action.Action.TheVariants as action
-use Rattle.l2_code.specs.Trees.{Node, Do, Block, Loop, Nodes, none, more, CodeTree}
-use Rattle.l2_code.specs.Values.{Types, Temps, with_temp, no_temps}
+use Rattle.l2_code.specs.Trees.{Node, Do, Block, Loop, Nodes, none, more}
+use Rattle.l2_code.specs.Values.{Types, Temps, with_temp}
 use Rattle.l2_code.specs.Machine as machine
 use Rattle.l2_code.specs.Machine.{Way, On, Out, act, leave, close}
-use Rattle.l2_code.specs.Sets.{Family}
-use Rattle.l2_code.specs.Modes.{types_of, mods_of, first_store, run_code}
-use Rattle.l2_supply.specs.Supply.{Supply, left, right, Place, Come, Goes, Ends, Supplied, on_goes, then_with, without, with_choice, come_of, at, Agrees}
+use Rattle.l2_supply.specs.Supply.{Supplied, on_goes, then_with, without, with_choice, Agrees}
 
 -- ---- single runs
 
@@ -111,7 +109,7 @@ machine_of g = record { limit = limit_of g g.heads; tests = g.tests; types = g.t
 abbrev pub cut_with : {C F : Type 0} → ℕ → Supplied (Unit {0}) → (Bool → Supplied (C × Option F)) → Bool → Supplied (C × F)
 cut_with zero back q b = stops
 cut_with (suc n) back q b =
-    then_with with_choice (λ z. on_bool (int_eq z (pos 0)) (rounds_with (suc n) (q b)) (then_with back (λ u. later_with n q b)))
+    then_with with_choice (λ z. on_bool (int_eq z (pos 0)) (then_with (goes (tt {0})) (λ u. rounds_with (suc n) (q b))) (then_with back (λ u. later_with n q b)))
 
 abbrev pub loop_with : {C F : Type 0} → Setting → Heads → ℕ → (Bool → Supplied (C × Option F)) → Bool → Supplied (C × F)
 loop_with g (Short k) l q b = rounds_with k (then_with (without tally) (λ u. q b))
