@@ -96,8 +96,12 @@ request_in name rows =
     else if bytes_eq name (codes "generate") then generate_in rows
     else None
 
+-- the same of the command that was entered
+abbrev pub request_entered : Option (Text × List Row) → Option Request
+request_entered entered = option_and_then (λ e. request_in e.0 e.1) entered
+
 abbrev pub request_where : Kinds → Option (Text × List Row) → Option Request
-request_where [] entered = option_and_then (λ e. request_in e.0 e.1) entered
+request_where [] entered = request_entered entered
 request_where (fault ∷ more) entered = None
 
 -- what words ask for: nothing where `clap` finds a fault in them

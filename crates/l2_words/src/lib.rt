@@ -5,4 +5,5 @@ mod line;
 mod request;
 mod values;
 
+pub use line::command;
 pub use request::{Deciding, DomainName, Request, View, WordsError};

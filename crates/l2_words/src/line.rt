@@ -1,10 +1,12 @@
-ghost use Rattle.std.specs.Prelude.{◌≡◌, ◌≢◌, [], ◌∷◌, Some, None, codes, false, true, IfOk, OnOk, IsErrOf};
-ghost use Rattle.clap.specs.Words.{app_of, rule_of, kind_of, new_app, with_rule, with_subcommand};
+ghost use Rattle.std.specs.Prelude.{◌≡◌, ◌≢◌, [], ◌∷◌, Some, None, codes, false, true, option_map, IfOk, OnOk, IsErrOf};
+ghost use Rattle.clap.specs.Words.{app_of, rule_of, kind_of, subcommand_rows_of, new_app, with_rule, with_subcommand};
 ghost use Rattle.l2_words.specs.Line.{operand, option, option_or, flag, file, overflow, quiet, bounded_app, deciding_app, check_app, replay_app, show_app, generate_app, bare_app, deciders_app, judges_app, twols_app, texts};
-ghost use Rattle.l2_words.specs.Requests.{asked, command};
+ghost use Rattle.l2_words.specs.Requests.{asked, request_entered, command};
 
+use crate::request::{Request, WordsError};
+use crate::values::request_in;
 use clap::error::ErrorKind;
-use clap::{Arg, ArgAction, Command, Error};
+use clap::{Arg, ArgAction, ArgMatches, Command, Error};
 use std::alloc::{AllocError, Global};
 
 fn operand<'a>(alloc: Global, id: &'a str) -> Arg<'a>
@@ -157,4 +159,37 @@ fn twols<'a>(alloc: Global) -> Result<Command<'a>, AllocError>
 {
     let one = with(judges(alloc)?, show(alloc)?)?;
     with(one, generate(alloc)?)
+}
+
+/// Why the words are refused.
+fn cause(error: &Error) -> WordsError
+    ensures { result ≡ WordsError.Usage → kind_of error.now ≢ ErrorKind.OutOfMemory }
+{
+    match error.kind() {
+        ErrorKind::OutOfMemory => WordsError::NoMemory,
+        _ => WordsError::Usage,
+    }
+}
+
+/// The request in what `clap` found.
+fn request_of<'a>(matches: &ArgMatches<'a>) -> Option<Request<'a>>
+    ensures { option_map asked result ≡ request_entered (subcommand_rows_of matches.now) }
+{
+    let (name, own) = matches.subcommand()?;
+    request_in(name, own)
+}
+
+/// What the words ask for.
+pub fn command<'a>(alloc: Global, words: &'a [String]) -> Result<Request<'a>, WordsError>
+    ensures ok { IfOk result (λ r. command (texts words.now) ≡ Some (asked r)) }
+    ensures usage { IsErrOf result WordsError.Usage → command (texts words.now) ≡ None }
+{
+    let line = twols(alloc)?;
+    match line.try_get_matches_from(words) {
+        Ok(matches) => match request_of(&matches) {
+            Some(request) => Ok(request),
+            None => Err(WordsError::Usage),
+        },
+        Err(error) => Err(cause(&error)),
+    }
 }

@@ -1,10 +1,17 @@
 ghost use Rattle.std.specs.Prelude.{◌≡◌, ◌≤◌, option_map};
-ghost use Rattle.clap.specs.Words.{rows_of, found_of};
+ghost use Rattle.clap.specs.Words.{rows_of, found_of, first_of};
 ghost use Rattle.l2_words.specs.Numbers.{number_between};
 ghost use Rattle.l2_words.specs.Requests.{asked, deciding_of, view_of, domain_of, overflow_in, deciding_in, check_in, replay_in, show_in, generate_in, request_in};
 
 use crate::request::{Deciding, DomainName, Request, View};
 use clap::ArgMatches;
+
+/// The value of an operand or an option.
+fn value<'a>(matches: &ArgMatches<'a>, id: &str) -> Option<&'a str>
+    ensures { option_map (λ s. s.now) result ≡ first_of id.now (rows_of (found_of matches.now)) }
+{
+    matches.get_str(id)
+}
 
 /// A number from the least to the most.
 fn number_between(least: u32, most: u32, text: &str) -> Option<u32>
@@ -50,7 +57,7 @@ fn domain_of(word: &str) -> Option<DomainName>
 fn overflow_in(matches: &ArgMatches<'_>) -> bool
     ensures { result ≡ overflow_in (rows_of (found_of matches.now)) }
 {
-    match matches.get_str("signed-overflow-check") {
+    match value(matches, "signed-overflow-check") {
         Some(text) => text == "true",
         None => false,
     }
@@ -59,24 +66,24 @@ fn overflow_in(matches: &ArgMatches<'_>) -> bool
 fn deciding_in<'a>(matches: &ArgMatches<'a>) -> Option<Deciding<'a>>
     ensures { option_map deciding_of result ≡ deciding_in (rows_of (found_of matches.now)) }
 {
-    let file = matches.get_str("file")?;
-    let unwind = number_between(1, 64, matches.get_str("unwind")?)?;
-    let domain = domain_of(matches.get_str("domain")?)?;
+    let file = value(matches, "file")?;
+    let unwind = number_between(1, 64, value(matches, "unwind")?)?;
+    let domain = domain_of(value(matches, "domain")?)?;
     Some(Deciding {
         file,
         unwind,
         domain,
         overflow: overflow_in(matches),
-        certificate: matches.get_str("certificate"),
+        certificate: value(matches, "certificate"),
     })
 }
 
 fn check_in<'a>(matches: &ArgMatches<'a>) -> Option<Request<'a>>
     ensures { option_map asked result ≡ check_in (rows_of (found_of matches.now)) }
 {
-    let file = matches.get_str("file")?;
-    let certificate = matches.get_str("second")?;
-    let jobs = number_between(1, 64, matches.get_str("jobs")?)?;
+    let file = value(matches, "file")?;
+    let certificate = value(matches, "second")?;
+    let jobs = number_between(1, 64, value(matches, "jobs")?)?;
     Some(Request::Check {
         file,
         certificate,
@@ -87,8 +94,8 @@ fn check_in<'a>(matches: &ArgMatches<'a>) -> Option<Request<'a>>
 fn replay_in<'a>(matches: &ArgMatches<'a>) -> Option<Request<'a>>
     ensures { option_map asked result ≡ replay_in (rows_of (found_of matches.now)) }
 {
-    let file = matches.get_str("file")?;
-    let values = matches.get_str("second")?;
+    let file = value(matches, "file")?;
+    let values = value(matches, "second")?;
     Some(Request::Replay {
         file,
         values,
@@ -99,8 +106,8 @@ fn replay_in<'a>(matches: &ArgMatches<'a>) -> Option<Request<'a>>
 fn show_in<'a>(matches: &ArgMatches<'a>) -> Option<Request<'a>>
     ensures { option_map asked result ≡ show_in (rows_of (found_of matches.now)) }
 {
-    let view = view_of(matches.get_str("what")?)?;
-    let file = matches.get_str("file")?;
+    let view = view_of(value(matches, "what")?)?;
+    let file = value(matches, "file")?;
     Some(Request::Show {
         view,
         file,
@@ -111,8 +118,8 @@ fn show_in<'a>(matches: &ArgMatches<'a>) -> Option<Request<'a>>
 fn generate_in<'a>(matches: &ArgMatches<'a>) -> Option<Request<'a>>
     ensures { option_map asked result ≡ generate_in (rows_of (found_of matches.now)) }
 {
-    let seed = number_between(0, u32::MAX, matches.get_str("n")?)?;
-    let loops = number_between(1, 64, matches.get_str("loops")?)?;
+    let seed = number_between(0, u32::MAX, value(matches, "n")?)?;
+    let loops = number_between(1, 64, value(matches, "loops")?)?;
     Some(Request::Generate { seed, loops })
 }
 
