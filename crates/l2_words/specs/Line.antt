@@ -62,8 +62,12 @@ generate_app = with_rule (with_rule (quiet (new_app (codes "generate"))) (operan
 abbrev pub bare_app : App
 bare_app = record (new_app (codes "twols")) {
   top = record (new_app (codes "twols")).top {
-    no_binary_name = true; disable_help_flag = true; disable_help_subcommand = true; disable_version_flag = true; subcommand_required = true
-  }
+    no_binary_name = true;
+    disable_help_flag = true;
+    disable_help_subcommand = true;
+    disable_version_flag = true;
+    subcommand_required = true;
+  };
 }
 
 -- the commands that decide a text

@@ -59,7 +59,11 @@ overflow_in rows = is_on (first_of (codes "signed-overflow-check") rows)
 abbrev pub deciding_in : List Row → Option Deciding
 deciding_in rows =
     option_and_then (λ file. option_and_then (λ unwind. option_map (λ domain. record {
-      file = file; unwind = unwind; domain = domain; overflow = overflow_in rows; certificate = first_of (codes "certificate") rows
+      file = file;
+      unwind = unwind;
+      domain = domain;
+      overflow = overflow_in rows;
+      certificate = first_of (codes "certificate") rows;
     }) (option_and_then domain_of (first_of (codes "domain") rows)))
     (option_and_then (number_between 1 64) (first_of (codes "unwind") rows)))
     (first_of (codes "file") rows)

@@ -59,7 +59,10 @@ pub enum Request<'a> {
         overflow: bool,
     },
     /// `generate N`
-    Generate { seed: u32, loops: u32 },
+    Generate {
+        seed: u32,
+        loops: u32,
+    },
 }
 
 /// Why words ask for nothing.
