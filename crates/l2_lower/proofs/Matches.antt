@@ -1,0 +1,65 @@
+-- Two runs that do the same step by step, where each hands on values of its own.
+use Rattle.std.proofs.Common.{◌≡◌, ℕ, ℤ, Bool, true, false, List, [], ◌∷◌, refl, sym, subst}
+use Rattle.std.specs.Prelude.{◌||◌, ◌==◌}
+use Rattle.l2_runs.specs.declared.cells.CellValue.{CellValue}
+use Rattle.l2_runs.specs.declared.outcome.Outcome.TheVariants.{Ended, Stopped, Broken, OutOfChoices, OutOfTurns}
+use Rattle.l2_runs.specs.Store.{Address}
+use Rattle.l2_runs.specs.Fits.{Layout, FitsAt, StoreFits}
+use Rattle.l2_runs.specs.Runs.{State, End, Over, Fallen, Result, Go, Halt, Run, on_go, and_then, done, over, either, take_choice, choose, write, enliven, bury, demand, check}
+use Rattle.l2_runs.specs.Keeps.{ResultFits, Keeps, Anything}
+use Rattle.l2_lower.specs.Alike.{AreUsedAlike, AreAlike}
+
+pub same_alike : (e : End) (s : State) → AreAlike e s s
+same_alike (Over Ended) s = record { choices = refl; turns = refl; arrivals = refl }
+same_alike (Over Stopped) s = refl
+same_alike (Over (Broken c)) s = refl
+same_alike (Over OutOfChoices) s = refl
+same_alike (Over OutOfTurns) s = refl
+same_alike (Fallen l row) s = refl
+
+module _ (layout : Layout) where
+  -- where two runs have come to: values that stand for the same, and the same state, whose cells hold values of their types
+  abbrev pub Match : {A B : Type 0} → (A → B → Type 0) → Result A → Result B → Type 0
+  Match Same (Go a s) (Go b t) = Same a b × (s ≡ t) × StoreFits layout s.store
+  Match Same (Go a s) (Halt f t) = ⊥
+  Match Same (Halt e s) (Go b t) = ⊥
+  Match Same (Halt e s) (Halt f t) = (e ≡ f) × AreAlike e s t
+
+  pub record Matches {A B : Type 0} (Same : A → B → Type 0) (r : Run A) (q : Run B) : Type 0 where
+    pub by : (s : State) → StoreFits layout s.store → Match Same (r s) (q s)
+
+  pub then_match : {A B A' B' : Type 0} {S : A → B → Type 0} {T : A' → B' → Type 0} (x : Result A) (y : Result B) (f : A → Run A') (g : B → Run B') → Match S x y → ((a : A) (b : B) → S a b → Matches T (f a) (g b)) → Match T (on_go x f) (on_go y g)
+  then_match {T = T} (Go a s) (Go b t) f g (p, e, k) next = subst (λ z. Match T (f a s) (g b z)) e ((next a b p).by s k)
+  then_match (Go a s) (Halt e t) f g h next = absurd h
+  then_match (Halt e s) (Go b t) f g h next = absurd h
+  then_match (Halt e s) (Halt d t) f g h next = h
+
+  pub then_matches : {A B A' B' : Type 0} {S : A → B → Type 0} {T : A' → B' → Type 0} {r : Run A} {q : Run B} {f : A → Run A'} {g : B → Run B'} → Matches S r q → ((a : A) (b : B) → S a b → Matches T (f a) (g b)) → Matches T (and_then r f) (and_then q g)
+  then_matches {r = r} {q = q} {f = f} {g = g} h next = record { by = λ s k. then_match (r s) (q s) f g (h.by s k) next }
+
+  -- a run on one side alone, that goes on in the same state
+  pub done_matches : {A B : Type 0} {S : A → B → Type 0} (a : A) (b : B) → S a b → Matches S (done a) (done b)
+  done_matches a b p = record { by = λ s k. (p, refl, k) }
+
+  pub over_matches : {A B : Type 0} {S : A → B → Type 0} (e : End) → Matches S (over {A = A} e) (over {A = B} e)
+  over_matches e = record { by = λ s k. (refl, same_alike e s) }
+
+  pub either_matches : {A B : Type 0} {S : A → B → Type 0} (b : Bool) {r r' : Run A} {q q' : Run B} → Matches S r q → Matches S r' q' → Matches S (either b r r') (either b q q')
+  either_matches true h k = record { by = λ s f. h.by s f }
+  either_matches false h k = record { by = λ s f. k.by s f }
+
+  -- a run does what it does
+  pub self_match : {A : Type 0} (x : Result A) (IsCheck : ℕ → Type 0) (IsSo : A → Type 0) → ResultFits layout IsCheck IsSo x → Match (λ a b. (a ≡ b) × IsSo a) x x
+  self_match (Go a s) IsCheck IsSo (p, k) = ((refl, p), refl, k)
+  self_match (Halt e s) IsCheck IsSo (p, k) = (refl, same_alike e s)
+
+  pub self_matches : {A : Type 0} {IsCheck : ℕ → Type 0} {IsSo : A → Type 0} {r : Run A} → Keeps layout IsCheck IsSo r → Matches (λ a b. (a ≡ b) × IsSo a) r r
+  self_matches {IsCheck = IsCheck} {IsSo = IsSo} {r = r} h = record { by = λ s k. self_match (r s) IsCheck IsSo (h.by s k) }
+
+  demand_match : (y : Bool) (e : End) (ok : Bool) (s : State) → StoreFits layout s.store → Match {A = Unit {0}} {B = Unit {0}} (λ a b. Unit {0}) (demand y e ok s) (demand y e ok s)
+  demand_match y e true s k = (tt, refl, k)
+  demand_match true e false s k = (refl, same_alike e s)
+  demand_match false e false s k = (refl, refl)
+
+  pub demand_matches : (y : Bool) (e : End) (ok : Bool) → Matches {A = Unit {0}} {B = Unit {0}} (λ a b. Unit {0}) (demand y e ok) (demand y e ok)
+  demand_matches y e ok = record { by = λ s k. demand_match y e ok s k }

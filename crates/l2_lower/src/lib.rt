@@ -1,0 +1,5 @@
+//! The code of a program: what it is, that it does what the program does, and the function that gives it.
+//! The definitions stand in `specs/`.
+#![tactic(auto)]
+
+pub mod laws;
