@@ -1,1 +1,4 @@
 pub mod Alike
+pub mod Emitting
+pub mod Statements
+pub mod Code
