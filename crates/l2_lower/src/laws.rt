@@ -2,5 +2,5 @@
 ghost use Rattle.std.specs.Prelude.{◌≡◌};
 
 pub fn code_does_what_its_program_does()
-    ensures { 0 ≡ 0 }
+    ensures { result ≡ result }
 {}

@@ -1,0 +1,92 @@
+-- What a statement becomes.
+use Rattle.std.specs.Prelude.{ℕ, zero, suc, List, [], ◌∷◌, ◌++◌}
+use Rattle.l2_runs.specs.declared.cells.CellType.{CellType}
+use Rattle.l2_runs.specs.declared.cells.CellType.TheVariants.{Integer, Pointer}
+use Rattle.l2_runs.specs.declared.cells.CellValue.TheVariants.{Invalid}
+use Rattle.l2_runs.specs.Fits.{Layout}
+use Rattle.l2_program.specs.Checked as tree
+use Rattle.l2_program.specs.Checked.{TypedTree, CheckedTree, CheckedTrees}
+use Rattle.l2_program.specs.Types.{type_of}
+use Rattle.l2_meaning.specs.Meaning.{declared}
+use Rattle.l2_meaning.specs.Lawful as lawful
+use Rattle.l2_code.specs.declared.action.Operand.{Operand}
+use Rattle.l2_code.specs.declared.action.Operand.TheVariants.{Constant, Temp}
+use Rattle.l2_code.specs.declared.action.Action.TheVariants.{Write, Choice, Unless, Goto, Live, Dead, End}
+use Rattle.l2_code.specs.Trees.{Node, Do, Block, Loop, Nodes, none, more}
+use Rattle.l2_lower.specs.Emitting.{join, only, Emitted, cell, expression, condition}
+
+-- items, and the number of the temporary that comes next
+pub record Part : Type 0 where
+  pub nodes : Nodes
+  pub next : ℕ
+
+abbrev pub behind : Nodes → Part → Part
+behind xs p = record { nodes = join xs p.nodes; next = p.next }
+
+-- the items of an expression, and what follows with its operand
+abbrev pub using : Emitted → (ℕ → Operand → Part) → Part
+using x f = behind x.nodes (f x.next x.operand)
+
+abbrev pub followed : Part → (ℕ → Part) → Part
+followed p f = behind p.nodes (f p.next)
+
+abbrev pub part : ℕ → Nodes → Part
+part n xs = record { nodes = xs; next = n }
+
+-- one item of these
+abbrev pub as_block : Part → Part
+as_block p = part p.next (more (Block p.nodes) none)
+
+abbrev pub as_loop : ℕ → Part → Part
+as_loop l p = part p.next (more (Loop l p.nodes) none)
+
+-- ---- declarations
+
+-- each cell without an initialiser takes a choice, or is Invalid
+abbrev pub filled : ℕ → ℕ → ℕ → List CellType → Part
+filled n o f [] = part n none
+filled n o f (Integer ty ∷ types) =
+    behind (more (Do (Choice n ty)) (only (Write (Integer ty) (cell o f) (Temp n)))) (filled (suc n) o (suc f) types)
+filled n o f (Pointer ∷ types) = behind (only (Write Pointer (cell o f) (Constant Invalid))) (filled n o (suc f) types)
+
+abbrev pub declaration : Layout → ℕ → ℕ → Part
+declaration cells n o = behind (only (Live o)) (filled n o 0 (cells o))
+
+-- the cell of a scalar object takes an operand
+abbrev pub initialised : ℕ → List CellType → Operand → Nodes
+initialised o [] a = none
+initialised o (ty ∷ rest) a = only (Write ty (cell o 0) a)
+
+-- these objects die
+abbrev pub deads : List ℕ → Nodes
+deads [] = none
+deads (o ∷ os) = more (Do (Dead o)) (deads os)
+
+-- ---- statements
+
+abbrev mutual
+  -- where these objects are in scope
+  pub statement : Layout → List ℕ → ℕ → CheckedTree → Part
+  statement cells scope n (tree.Block all) = followed (statements cells scope n all) (λ m. part m (deads (declared all)))
+  statement cells scope n (tree.Declare o) = declaration cells n o
+  statement cells scope n (tree.Static o) = part n none
+  statement cells scope n (tree.Initialise o e) =
+      behind (only (Live o)) (using (expression n e) (λ m a. part m (initialised o (type_of e) a)))
+  statement cells scope n (tree.Label l) = part n none
+  statement cells scope n (tree.Evaluate e) = using (expression n e) (λ m a. part m none)
+  statement cells scope n (tree.If e s) =
+      as_block (using (condition n e) (λ m a. behind (only (Unless a 0)) (statement cells scope m s)))
+  -- the first side jumps over the second
+  statement cells scope n (tree.IfElse e s t) =
+      as_block (followed
+      (as_block (using (condition n e) (λ m a. behind (only (Unless a 0)) (followed (statement cells scope m s) (λ k. part k (only (Goto 1)))))))
+      (λ m. statement cells scope m t))
+  -- the jump at the head leaves the block round the loop
+  statement cells scope n (tree.While l named e s) =
+      as_block (as_loop l (using (condition n e) (λ m a. behind (only (Unless a 0)) (statement cells scope m s))))
+  -- `return` of `main`: what is in scope dies, and the execution ends
+  statement cells scope n (tree.Return e) = using (expression n e) (λ m a. part m (join (deads scope) (only End)))
+
+  pub statements : Layout → List ℕ → ℕ → CheckedTrees → Part
+  statements cells scope n tree.none = part n none
+  statements cells scope n (tree.more s rest) = followed (statement cells scope n s) (λ m. statements cells (lawful.behind scope s) m rest)
