@@ -1,2 +1,4 @@
 pub mod Matches
 pub mod MatchLoops
+pub mod Joins
+pub mod Computing

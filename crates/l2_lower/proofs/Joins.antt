@@ -1,0 +1,36 @@
+-- Items behind items do what the first and then the others do.
+use Rattle.std.proofs.Common.{◌≡◌, ℕ, zero, suc, Bool, List, [], ◌∷◌, refl, sym, ap, subst, ◌∙◌}
+use Rattle.l2_runs.specs.Fits.{Layout}
+use Rattle.l2_runs.specs.Runs.{State, Result, Go, Halt, Run, on_go, and_then, done}
+use Rattle.l2_code.specs.Trees.{Node, Nodes, none, more}
+use Rattle.l2_code.specs.Values.{Temps}
+use Rattle.l2_code.specs.Machine.{Setting, Way, On, Out, follow, node, nodes}
+use Rattle.l2_lower.specs.Emitting.{join}
+use Rattle.l2_lower.proofs.Matches.{Match, Matches, then_matches}
+
+module _ {A B C : Type 0} where
+  pub assoc_at : (x : Result A) (h : A → Run B) (k : B → Run C) → on_go (on_go x h) k ≡ on_go x (λ a. and_then (h a) k)
+  assoc_at (Go a s) h k = refl
+  assoc_at (Halt o s) h k = refl
+
+-- a run that comes to its end is itself
+pub then_done : {A : Type 0} (x : Result A) → on_go x done ≡ x
+then_done (Go a s) = refl
+then_done (Halt e s) = refl
+
+module _ (g : Setting) (b : Bool) where
+  followed_at : (x : Result Way) (f h : Temps → Run Way) → on_go (on_go x (follow f)) (follow h) ≡ on_go x (follow (λ t. and_then (f t) (follow h)))
+  followed_at (Go (On t) s) f h = refl
+  followed_at (Go (Out n) s) f h = refl
+  followed_at (Halt e s) f h = refl
+
+  pub join_is : (xs ys : Nodes) (t : Temps) → nodes g b (join xs ys) t ≡ and_then (nodes g b xs t) (follow (nodes g b ys))
+  join_is none ys t = refl
+  join_is (more x xs) ys t =
+      ap {B = Run Way} (λ (f : Temps → Run Way). and_then (node g b x t) (follow f)) (λ i u. join_is xs ys u i)
+      ∙ sym (λ i s. followed_at (node g b x t s) (nodes g b xs) (nodes g b ys) i)
+
+  -- what is done by the first items, and then by the others
+  pub join_matches : {A A' : Type 0} {S : A → Way → Type 0} {T : A' → Way → Type 0} (layout : Layout) (xs ys : Nodes) (t : Temps) (r : Run A) (f : A → Run A') →
+      Matches layout S r (nodes g b xs t) → ((a : A) (w : Way) → S a w → Matches layout T (f a) (follow (nodes g b ys) w)) → Matches layout T (and_then r f) (nodes g b (join xs ys) t)
+  join_matches {T = T} layout xs ys t r f h next = subst (λ (q : Run Way). Matches layout T (and_then r f) q) (sym (join_is xs ys t)) (then_matches layout h next)
