@@ -2,3 +2,5 @@ pub mod Matches
 pub mod MatchLoops
 pub mod Joins
 pub mod Computing
+pub mod Converted
+pub mod Expressions

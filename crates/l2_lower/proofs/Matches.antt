@@ -37,7 +37,15 @@ module _ (layout : Layout) where
   pub then_matches : {A B A' B' : Type 0} {S : A → B → Type 0} {T : A' → B' → Type 0} {r : Run A} {q : Run B} {f : A → Run A'} {g : B → Run B'} → Matches S r q → ((a : A) (b : B) → S a b → Matches T (f a) (g b)) → Matches T (and_then r f) (and_then q g)
   then_matches {r = r} {q = q} {f = f} {g = g} h next = record { by = λ s k. then_match (r s) (q s) f g (h.by s k) next }
 
-  -- a run on one side alone, that goes on in the same state
+  pub weaker_match : {A B : Type 0} {S T : A → B → Type 0} (x : Result A) (y : Result B) → Match S x y → ((a : A) (b : B) → S a b → T a b) → Match T x y
+  weaker_match (Go a s) (Go b t) (p, e, k) next = (next a b p, e, k)
+  weaker_match (Go a s) (Halt e t) h next = absurd h
+  weaker_match (Halt e s) (Go b t) h next = absurd h
+  weaker_match (Halt e s) (Halt d t) h next = h
+
+  pub weaker_matches : {A B : Type 0} {S T : A → B → Type 0} {r : Run A} {q : Run B} → Matches S r q → ((a : A) (b : B) → S a b → T a b) → Matches T r q
+  weaker_matches {r = r} {q = q} h next = record { by = λ s k. weaker_match (r s) (q s) (h.by s k) next }
+
   pub done_matches : {A B : Type 0} {S : A → B → Type 0} (a : A) (b : B) → S a b → Matches S (done a) (done b)
   done_matches a b p = record { by = λ s k. (p, refl, k) }
 
