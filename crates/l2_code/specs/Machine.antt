@@ -1,10 +1,9 @@
 -- What code does.
-use Rattle.std.specs.Prelude.{ℕ, zero, suc, Bool, List, Option, Some, None}
+use Rattle.std.specs.Prelude.{ℕ, zero, suc, Bool, Option, Some, None}
 use Rattle.l2_bits.specs.Values.{wrap}
 use Rattle.l2_runs.specs.declared.cells.CellValue.{CellValue}
 use Rattle.l2_runs.specs.declared.cells.CellValue.TheVariants.{Number}
 use Rattle.l2_runs.specs.declared.outcome.Outcome.TheVariants.{Ended}
-use Rattle.l2_runs.specs.Store.{Address}
 use Rattle.l2_runs.specs.Runs.{Over, Fallen, Run, and_then, done, over, stop, either, choose, read, write, enliven, bury, check}
 use Rattle.l2_runs.specs.Loops.{Limit, Tests, loop_of}
 use Rattle.l2_code.specs.declared.action.Action.{Action}

@@ -1,7 +1,6 @@
+use crate::action::Action;
 use l2_bits::List;
 use l2_runs::{CellType, CellValue, Kind};
-
-use crate::action::Action;
 
 /// A part of code: an instruction; items that a jump leaves, to behind them; or a loop by its number, which jumps alone leave.
 #[derive(Drop)]
