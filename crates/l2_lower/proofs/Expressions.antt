@@ -12,14 +12,15 @@ use Rattle.l2_runs.specs.declared.cells.CellType.{CellType}
 use Rattle.l2_runs.specs.declared.cells.CellType.TheVariants.{Integer, Pointer}
 use Rattle.l2_runs.specs.declared.cells.CellValue.{CellValue}
 use Rattle.l2_runs.specs.declared.cells.CellValue.TheVariants.{Number, Null, Invalid, At}
-use Rattle.l2_runs.specs.declared.outcome.Outcome.TheVariants.{Broken}
+use Rattle.l2_runs.specs.declared.outcome.Outcome.{Outcome}
+use Rattle.l2_runs.specs.declared.outcome.Outcome.TheVariants.{Broken, Stopped, OutOfChoices}
 use Rattle.l2_runs.specs.declared.operators.UnaryOperator.{UnaryOperator}
 use Rattle.l2_runs.specs.declared.operators.UnaryOperator.TheVariants.{Negate, Not}
 use Rattle.l2_runs.specs.declared.operators.BinaryOperator.{BinaryOperator}
 use Rattle.l2_runs.specs.declared.operators.BinaryOperator.TheVariants as binary_operator
 use Rattle.l2_runs.specs.Operators.{truth, is_zero, unary, binary, unary_overflows, binary_overflows}
 use Rattle.l2_runs.specs.Fits.{Layout, CellFits, StoreFits}
-use Rattle.l2_runs.specs.Runs.{State, Over, Result, Go, Halt, Run, on_go, and_then, done, demand, check}
+use Rattle.l2_runs.specs.Runs.{State, End, Over, Result, Go, Halt, Run, on_go, and_then, done, demand, check}
 use Rattle.l2_runs.specs.Loops.{Limit, Tests}
 use Rattle.l2_program.specs.Types.{is_computing, is_arithmetic, given}
 use Rattle.l2_meaning.specs.Meaning.{Value, Calls, number, number_of, holds}
@@ -35,7 +36,7 @@ use Rattle.l2_code.specs.Values.{Types, Temps, operand_value, operate, is_true}
 use Rattle.l2_code.specs.Machine.{Way, On, Out, follow, node, nodes}
 use Rattle.l2_code.specs.Machine as machine
 use Rattle.l2_lower.specs.Emitting.{join, only, Emitted, behind, then_nodes, nothing, result, checked, computed, zero_number, overflow_checked, unary_code, binary_code}
-use Rattle.l2_lower.proofs.Matches.{Match, Matches, then_matches, weaker_matches, done_matches, demand_matches}
+use Rattle.l2_lower.proofs.Matches.{AnyTwo, Match, Matches, then_matches, weaker_matches, done_matches, demand_match}
 use Rattle.l2_lower.proofs.Joins.{join_is, join_matches}
 use Rattle.l2_lower.proofs.Computing.{Stay, IsBelow, below_more, operand_stays, stay_less, stay_again, Computes, numbers_compute, convert_computes, overflow_computes, truth_is}
 
@@ -45,16 +46,26 @@ Holds cells [] c v = v ≡ []
 Holds cells (ty ∷ []) c v = (v ≡ c ∷ []) × CellFits cells ty c
 Holds cells (ty ∷ u ∷ rest) c v = ⊥
 
-pub record IsHeld (cells : Layout) (types : List CellType) (x : Emitted) (n : ℕ) (t u : Temps) (v : Value) : Type 0 where
-  pub holds : Holds cells types (operand_value u x.operand) v
+-- the operand holds the value, where it stands behind the temporaries below n, and the next one is k
+pub record IsHeld (cells : Layout) (types : List CellType) (a : Operand) (k n : ℕ) (t u : Temps) (v : Value) : Type 0 where
+  pub holds : Holds cells types (operand_value u a) v
   pub stay : Stay n t u
-  pub grows : n ≤ x.next
-  pub below : IsBelow x.next x.operand
+  pub grows : n ≤ k
+  pub below : IsBelow k a
 
 -- the code of an expression leads on to temporaries where its operand holds the value
-abbrev pub IsGiven : Layout → List CellType → Emitted → ℕ → Temps → Value → Way → Type 0
-IsGiven cells types x n t v (On u) = IsHeld cells types x n t u v
-IsGiven cells types x n t v (Out k) = ⊥
+abbrev pub IsGiven : Layout → List CellType → Operand → ℕ → ℕ → Temps → Value → Way → Type 0
+IsGiven cells types a k n t v (On u) = IsHeld cells types a k n t u v
+IsGiven cells types a k n t v (Out j) = ⊥
+
+pub given_later : (cells : Layout) (types : List CellType) (a : Operand) (k n m : ℕ) (t u : Temps) → n ≤ m → Stay n t u → (v : Value) (w : Way) → IsGiven cells types a k m u v w → IsGiven cells types a k n t v w
+given_later cells types a k n m t u h stay v (On z) l = record {
+  holds = l.holds;
+  stay = stay_again n t u z stay (stay_less n m u z h l.stay);
+  grows = let p = l.grows in omega arith;
+  below = l.below;
+}
+given_later cells types a k n m t u h stay v (Out j) l = absurd l
 
 pub number_in : (cells : Layout) (ty : Ty) (c : CellValue) → CellFits cells (Integer ty) c → (z : ℤ) × (c ≡ Number z) × IsValue ty z
 number_in cells ty (Number z) h = (z, refl, h)
@@ -66,47 +77,42 @@ ne_is : (x : Bool) → truth (not x) ≡ (if x then pos 0 else pos 1)
 ne_is true = refl
 ne_is false = refl
 
-module _ (cells : Layout) (pointed : ℕ → List CellType) (limit : Limit) (tests : Tests) (b : Bool) where
+module _ (cells : Layout) (pointed : ℕ → List CellType) (Fine : End → Type 0) (fine : (o : Outcome) → Fine (Over o)) (limit : Limit) (tests : Tests) (b : Bool) where
   abbrev pub code_here : machine.Setting
   code_here = record { limit = limit; tests = tests; types = record { objects = cells; pointed = pointed } }
 
+  -- where the code of x gives a value of these types
+  abbrev pub Gives : List CellType → Emitted → ℕ → Temps → Run Value → Type 0
+  Gives types x n t r = Matches cells Fine (IsGiven cells types x.operand x.next n t) r (nodes code_here b x.nodes t)
+
   -- what follows may use the operand
   pub behind_gives : (types types' : List CellType) (x : Emitted) (f : ℕ → Operand → Emitted) (n : ℕ) (t : Temps) (r : Run Value) (h : Value → Run Value) →
-      Matches cells (IsGiven cells types x n t) r (nodes code_here b x.nodes t) →
-      ((v : Value) (u : Temps) → IsHeld cells types x n t u v → Matches cells (IsGiven cells types' (f x.next x.operand) x.next u) (h v) (nodes code_here b (f x.next x.operand).nodes u)) →
-      Matches cells (IsGiven cells types' (behind x f) n t) (and_then r h) (nodes code_here b (behind x f).nodes t)
-  behind_gives types types' x f n t r h m next = join_matches code_here b cells x.nodes (f x.next x.operand).nodes t r h m after where
-    wider : (v : Value) (u : Temps) → IsHeld cells types x n t u v → (w : Value) (y : Way) → IsGiven cells types' (f x.next x.operand) x.next u w y → IsGiven cells types' (behind x f) n t w y
-    wider v u k w (On z) l = record {
-      holds = l.holds;
-      stay = stay_again n t u z k.stay (stay_less n x.next u z k.grows l.stay);
-      grows = let p = k.grows in let q = l.grows in omega arith;
-      below = l.below;
-    }
-    wider v u k w (Out j) l = absurd l
-
-    after : (v : Value) (w : Way) → IsGiven cells types x n t v w → Matches cells (IsGiven cells types' (behind x f) n t) (h v) (follow (nodes code_here b (f x.next x.operand).nodes) w)
-    after v (On u) k = weaker_matches cells (next v u k) (wider v u k)
+      Gives types x n t r →
+      ((v : Value) (u : Temps) → IsHeld cells types x.operand x.next n t u v → Gives types' (f x.next x.operand) x.next u (h v)) →
+      Gives types' (behind x f) n t (and_then r h)
+  behind_gives types types' x f n t r h m next = join_matches code_here b cells Fine x.nodes (f x.next x.operand).nodes t r h m after where
+    after : (v : Value) (w : Way) → IsGiven cells types x.operand x.next n t v w → Matches cells Fine (IsGiven cells types' (behind x f).operand (behind x f).next n t) (h v) (follow (nodes code_here b (f x.next x.operand).nodes) w)
+    after v (On u) k = weaker_matches cells Fine (next v u k) (given_later cells types' (behind x f).operand (behind x f).next n x.next t u k.grows k.stay)
     after v (Out j) k = absurd k
 
-  pub computes_match : (ty : CellType) (x : Emitted) (n : ℕ) (t : Temps) (c : CellValue) → Computes code_here b n x t c → CellFits cells ty c → Matches cells (IsGiven cells (ty ∷ []) x n t) (done (c ∷ [])) (nodes code_here b x.nodes t)
-  computes_match ty x n t c h fits = record { by = λ s k. subst (λ (q : Run Way). Match cells (IsGiven cells (ty ∷ []) x n t) (Go (c ∷ []) s) (q s)) (sym h.runs) (held, refl, k) } where
-    held : IsHeld cells (ty ∷ []) x n t h.after (c ∷ [])
+  pub computes_match : (ty : CellType) (x : Emitted) (n : ℕ) (t : Temps) (c : CellValue) → Computes code_here b n x t c → CellFits cells ty c → Gives (ty ∷ []) x n t (done (c ∷ []))
+  computes_match ty x n t c h fits = record { by = λ s k. subst (λ (q : Run Way). Match cells Fine (IsGiven cells (ty ∷ []) x.operand x.next n t) (Go (c ∷ []) s) (q s)) (sym h.runs) (held, refl, k) } where
+    held : IsHeld cells (ty ∷ []) x.operand x.next n t h.after (c ∷ [])
     held = record { holds = (ap (λ v. v ∷ []) (sym h.value), subst (λ v. CellFits cells ty v) (sym h.value) fits); stay = h.stay; grows = h.grows; below = h.below }
 
   -- ---- checks
 
-  after_check : {A : Type 0} {T : A → Way → Type 0} (x y : Result (Unit {0})) (rest : Run A) (F : Temps → Run Way) (w : Temps) → Match cells (λ p q. Unit {0}) x y → Matches cells T rest (F w) → Match cells T (on_go x (λ p. rest)) (on_go (on_go y (λ p. done (On w))) (follow F))
-  after_check {T = T} (Go p s) (Go q t) rest F w (l, e, k) h = subst (λ z. Match cells T (rest s) (F w z)) e (h.by s k)
+  after_check : {A : Type 0} {T : A → Way → Type 0} (x y : Result (Unit {0})) (rest : Run A) (F : Temps → Run Way) (w : Temps) → Match cells Fine AnyTwo x y → Matches cells Fine T rest (F w) → Match cells Fine T (on_go x (λ p. rest)) (on_go (on_go y (λ p. done (On w))) (follow F))
+  after_check {T = T} (Go p s) (Go q t) rest F w (l, e, k) h = subst (λ z. Match cells Fine T (rest s) (F w z)) e (h.by s k)
   after_check (Go p s) (Halt e t) rest F w m h = absurd m
   after_check (Halt e s) (Go q t) rest F w m h = absurd m
   after_check (Halt e s) (Halt d t) rest F w m h = m
 
-  pub check_then : {A : Type 0} {T : A → Way → Type 0} (c : ℕ) (ok : Bool) (a : Operand) (xs : Nodes) (w : Temps) (rest : Run A) → is_true (operand_value w a) ≡ ok → Matches cells T rest (nodes code_here b xs w) →
-      Matches cells T (and_then (check b c ok) (λ p. rest)) (nodes code_here b (more (Do (Check c a)) xs) w)
+  pub check_then : {A : Type 0} {T : A → Way → Type 0} (c : ℕ) (ok : Bool) (a : Operand) (xs : Nodes) (w : Temps) (rest : Run A) → is_true (operand_value w a) ≡ ok → Matches cells Fine T rest (nodes code_here b xs w) →
+      Matches cells Fine T (and_then (check b c ok) (λ p. rest)) (nodes code_here b (more (Do (Check c a)) xs) w)
   check_then {T = T} c ok a xs w rest e h =
-      subst (λ x. Matches cells T (and_then (check b c ok) (λ p. rest)) (and_then (and_then (check b c x) (λ p. done (On w))) (follow (nodes code_here b xs)))) (sym e)
-      (record { by = λ s k. after_check (check b c ok s) (check b c ok s) rest (nodes code_here b xs) w ((demand_matches cells b (Over (Broken c)) (c == 0 || ok)).by s k) h })
+      subst (λ x. Matches cells Fine T (and_then (check b c ok) (λ p. rest)) (and_then (and_then (check b c x) (λ p. done (On w))) (follow (nodes code_here b xs)))) (sym e)
+      (record { by = λ s k. after_check (check b c ok s) (check b c ok s) rest (nodes code_here b xs) w (demand_match cells Fine b (Over (Broken c)) (c == 0 || ok) (fine (Broken c)) (fine Stopped) s k) h })
 
   -- a check that holds does nothing
   pub check_true : {A : Type 0} (c : ℕ) (rest : Run A) → and_then (check b c true) (λ p. rest) ≡ rest
@@ -120,12 +126,60 @@ module _ (cells : Layout) (pointed : ℕ → List CellType) (limit : Limit) (tes
   computes_then x n t c ys h = join_is code_here b x.nodes ys t ∙ ap {B = Run Way} (λ (q : Run Way). and_then q (follow (nodes code_here b ys))) h.runs
 
   overflow_gives : (types : List CellType) (c : ℕ) (op : Op) (ty : Ty) (p q : Operand) (f : ℕ → Emitted) (m : ℕ) (u : Temps) (x y : ℤ) (rest : Run Value) → operand_value u p ≡ Number x → operand_value u q ≡ Number y →
-      ((k : ℕ) (w : Temps) → m ≤ k → Stay m u w → Matches cells (IsGiven cells types (f k) k w) rest (nodes code_here b (f k).nodes w)) →
-      Matches cells (IsGiven cells types (overflow_checked m c op ty p q f) m u) (and_then (check b c (not (overflows op ty x y))) (λ z. rest)) (nodes code_here b (overflow_checked m c op ty p q f).nodes u)
+      ((k : ℕ) (w : Temps) → m ≤ k → Stay m u w → Gives types (f k) k w rest) →
+      Gives types (overflow_checked m c op ty p q f) m u (and_then (check b c (not (overflows op ty x y))) (λ z. rest))
   overflow_gives types zero op ty p q f m u x y rest e d next = record { by = λ s k. (next m u (omega arith) (λ i l. refl)).by s k }
   overflow_gives types (suc c) op ty p q f m u x y rest e d next = go (overflow_computes code_here b m op ty p q u x y e d) where
-    ok : Emitted
-    ok = computed m (Passes (test.Overflow op ty p q))
+    go : Computes code_here b m (computed m (Passes (test.Overflow op ty p q))) u (Number (truth (not (overflows op ty x y)))) →
+        Gives types (overflow_checked m (suc c) op ty p q f) m u (and_then (check b (suc c) (not (overflows op ty x y))) (λ z. rest))
+    go h =
+        let test = computed m (Passes (test.Overflow op ty p q)) in
+        let last = f test.next in
+        subst (λ (r : Run Way). Matches cells Fine (IsGiven cells types last.operand last.next m u) (and_then (check b (suc c) (not (overflows op ty x y))) (λ z. rest)) r)
+        (sym (computes_then test m u _ (more (Do (Check (suc c) test.operand)) last.nodes) h))
+        (check_then (suc c) (not (overflows op ty x y)) test.operand last.nodes h.after rest (ap is_true h.value ∙ truth_is (not (overflows op ty x y)))
+        (weaker_matches cells Fine (next test.next h.after h.grows h.stay) (given_later cells types last.operand last.next m test.next u h.after h.grows h.stay)))
 
-    go : Computes code_here b m (computed m (Passes (test.Overflow op ty p q))) u (Number (truth (not (overflows op ty x y)))) → _
-    go = ?
+  number_gives : (ty : Ty) (x : Emitted) (n : ℕ) (t : Temps) (z : ℤ) → Computes code_here b n x t (Number z) → IsValue ty z → Gives (Integer ty ∷ []) x n t (done (number z))
+  number_gives ty x n t z h k = computes_match (Integer ty) x n t (Number z) h k
+
+  unary_gives : (op : UnaryOperator) (ty : Ty) (c : ℕ) (m : ℕ) (a : Operand) (u : Temps) (z : ℤ) → IsBelow m a → operand_value u a ≡ Number z →
+      Gives (Integer (given (is_computing op) ty) ∷ []) (unary_code m op ty c a) m u (and_then (check b c (not (unary_overflows op ty z))) (λ w. done (number (unary op ty z))))
+  unary_gives Negate ty c m a u z h e =
+      overflow_gives (Integer ty ∷ []) c arithmetic.Sub ty zero_number a (λ k. computed k (Numbers operator.Sub ty zero_number a)) m u (pos 0) z _ refl e
+      (λ k w l stay. number_gives ty _ k w _ (numbers_compute code_here b k operator.Sub ty zero_number a w (pos 0) z _ refl (operand_stays m u w a h stay ∙ e) refl) (unary_value Negate ty z))
+  unary_gives Not ty c m a u z h e =
+      subst (λ r. Gives (Integer int_type ∷ []) (unary_code m Not ty c a) m u r) (sym (check_true c (done (number (unary Not ty z)))))
+      (number_gives int_type _ m u _ (numbers_compute code_here b m operator.Eq ty a zero_number u z (pos 0) _ e refl refl) (unary_value Not ty z))
+
+  -- two operands that hold these numbers
+  record AreNumbers (m : ℕ) (a d : Operand) (u : Temps) (x y : ℤ) : Type 0 where
+    left_below : IsBelow m a
+    right_below : IsBelow m d
+    left : operand_value u a ≡ Number x
+    right : operand_value u d ≡ Number y
+
+  later_numbers : (m : ℕ) (a d : Operand) (u w : Temps) (x y : ℤ) → AreNumbers m a d u x y → Stay m u w → (operand_value w a ≡ Number x) × (operand_value w d ≡ Number y)
+  later_numbers m a d u w x y h stay = (operand_stays m u w a h.left_below stay ∙ h.left, operand_stays m u w d h.right_below stay ∙ h.right)
+
+  -- a comparison overflows nothing
+  comparison_gives : (ty : Ty) (c : ℕ) (x : Emitted) (m : ℕ) (u : Temps) (z : ℤ) → Computes code_here b m x u (Number z) → IsValue ty z → Gives (Integer ty ∷ []) x m u (and_then (check b c true) (λ w. done (number z)))
+  comparison_gives ty c x m u z h k = subst (λ r. Gives (Integer ty ∷ []) x m u r) (sym (check_true c (done (number z)))) (number_gives ty x m u z h k)
+
+  binary_gives : (op : BinaryOperator) (ty : Ty) (c : ℕ) (m : ℕ) (a d : Operand) (u : Temps) (x y : ℤ) → AreNumbers m a d u x y →
+      Gives (Integer (given (is_arithmetic op) ty) ∷ []) (binary_code m op ty c a d) m u (and_then (check b c (not (binary_overflows op ty x y))) (λ w. done (number (binary op ty x y))))
+  binary_gives binary_operator.Multiply ty c m a d u x y h =
+      overflow_gives (Integer ty ∷ []) c arithmetic.Mul ty a d (λ k. computed k (Numbers operator.Mul ty a d)) m u x y _ h.left h.right
+      (λ k w l stay. let p = later_numbers m a d u w x y h stay in number_gives ty _ k w _ (numbers_compute code_here b k operator.Mul ty a d w x y _ p.0 p.1 refl) (binary_value binary_operator.Multiply ty x y))
+  binary_gives binary_operator.Add ty c m a d u x y h =
+      overflow_gives (Integer ty ∷ []) c arithmetic.Add ty a d (λ k. computed k (Numbers operator.Add ty a d)) m u x y _ h.left h.right
+      (λ k w l stay. let p = later_numbers m a d u w x y h stay in number_gives ty _ k w _ (numbers_compute code_here b k operator.Add ty a d w x y _ p.0 p.1 refl) (binary_value binary_operator.Add ty x y))
+  binary_gives binary_operator.Subtract ty c m a d u x y h =
+      overflow_gives (Integer ty ∷ []) c arithmetic.Sub ty a d (λ k. computed k (Numbers operator.Sub ty a d)) m u x y _ h.left h.right
+      (λ k w l stay. let p = later_numbers m a d u w x y h stay in number_gives ty _ k w _ (numbers_compute code_here b k operator.Sub ty a d w x y _ p.0 p.1 refl) (binary_value binary_operator.Subtract ty x y))
+  binary_gives binary_operator.Less ty c m a d u x y h = comparison_gives int_type c _ m u _ (numbers_compute code_here b m operator.Lt ty a d u x y _ h.left h.right refl) (binary_value binary_operator.Less ty x y)
+  binary_gives binary_operator.LessEqual ty c m a d u x y h = comparison_gives int_type c _ m u _ (numbers_compute code_here b m operator.Le ty a d u x y _ h.left h.right refl) (binary_value binary_operator.LessEqual ty x y)
+  binary_gives binary_operator.Greater ty c m a d u x y h = comparison_gives int_type c _ m u _ (numbers_compute code_here b m operator.Lt ty d a u y x _ h.right h.left refl) (binary_value binary_operator.Greater ty x y)
+  binary_gives binary_operator.GreaterEqual ty c m a d u x y h = comparison_gives int_type c _ m u _ (numbers_compute code_here b m operator.Le ty d a u y x _ h.right h.left refl) (binary_value binary_operator.GreaterEqual ty x y)
+  binary_gives binary_operator.Equal ty c m a d u x y h = comparison_gives int_type c _ m u _ (numbers_compute code_here b m operator.Eq ty a d u x y _ h.left h.right refl) (binary_value binary_operator.Equal ty x y)
+  binary_gives binary_operator.NotEqual ty c m a d u x y h = comparison_gives int_type c _ m u _ (numbers_compute code_here b m operator.Ne ty a d u x y _ h.left h.right (ap Some (ne_is (int_eq x y)))) (binary_value binary_operator.NotEqual ty x y)

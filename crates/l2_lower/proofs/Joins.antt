@@ -1,7 +1,7 @@
 -- Items behind items do what the first and then the others do.
 use Rattle.std.proofs.Common.{◌≡◌, ℕ, zero, suc, Bool, List, [], ◌∷◌, refl, sym, ap, subst, ◌∙◌}
 use Rattle.l2_runs.specs.Fits.{Layout}
-use Rattle.l2_runs.specs.Runs.{State, Result, Go, Halt, Run, on_go, and_then, done}
+use Rattle.l2_runs.specs.Runs.{State, End, Result, Go, Halt, Run, on_go, and_then, done}
 use Rattle.l2_code.specs.Trees.{Node, Nodes, none, more}
 use Rattle.l2_code.specs.Values.{Temps}
 use Rattle.l2_code.specs.Machine.{Setting, Way, On, Out, follow, node, nodes}
@@ -31,6 +31,6 @@ module _ (g : Setting) (b : Bool) where
       ∙ sym (λ i s. followed_at (node g b x t s) (nodes g b xs) (nodes g b ys) i)
 
   -- what is done by the first items, and then by the others
-  pub join_matches : {A A' : Type 0} {S : A → Way → Type 0} {T : A' → Way → Type 0} (layout : Layout) (xs ys : Nodes) (t : Temps) (r : Run A) (f : A → Run A') →
-      Matches layout S r (nodes g b xs t) → ((a : A) (w : Way) → S a w → Matches layout T (f a) (follow (nodes g b ys) w)) → Matches layout T (and_then r f) (nodes g b (join xs ys) t)
-  join_matches {T = T} layout xs ys t r f h next = subst (λ (q : Run Way). Matches layout T (and_then r f) q) (sym (join_is xs ys t)) (then_matches layout h next)
+  pub join_matches : {A A' : Type 0} {S : A → Way → Type 0} {T : A' → Way → Type 0} (layout : Layout) (Fine : End → Type 0) (xs ys : Nodes) (t : Temps) (r : Run A) (f : A → Run A') →
+      Matches layout Fine S r (nodes g b xs t) → ((a : A) (w : Way) → S a w → Matches layout Fine T (f a) (follow (nodes g b ys) w)) → Matches layout Fine T (and_then r f) (nodes g b (join xs ys) t)
+  join_matches {T = T} layout Fine xs ys t r f h next = subst (λ (q : Run Way). Matches layout Fine T (and_then r f) q) (sym (join_is xs ys t)) (then_matches layout Fine h next)

@@ -6,7 +6,7 @@ use Rattle.l2_runs.specs.declared.outcome.Outcome.TheVariants.{Ended, Stopped, B
 use Rattle.l2_runs.specs.Store.{Address}
 use Rattle.l2_runs.specs.Fits.{Layout, FitsAt, StoreFits}
 use Rattle.l2_runs.specs.Runs.{State, End, Over, Fallen, Result, Go, Halt, Run, on_go, and_then, done, over, either, take_choice, choose, write, enliven, bury, demand, check}
-use Rattle.l2_runs.specs.Keeps.{ResultFits, Keeps, Anything}
+use Rattle.l2_runs.proofs.Stores.{fits_live, fits_cell}
 use Rattle.l2_lower.specs.Alike.{AreUsedAlike, AreAlike}
 
 pub same_alike : (e : End) (s : State) → AreAlike e s s
@@ -17,13 +17,16 @@ same_alike (Over OutOfChoices) s = refl
 same_alike (Over OutOfTurns) s = refl
 same_alike (Fallen l row) s = refl
 
-module _ (layout : Layout) where
-  -- where two runs have come to: values that stand for the same, and the same state, whose cells hold values of their types
+abbrev pub AnyTwo : Unit {0} → Unit {0} → Type 0
+AnyTwo a b = Unit {0}
+
+module _ (layout : Layout) (Fine : End → Type 0) where
+  -- where two runs have come to: values that stand for the same, and the same state, whose cells hold values of their types; or alike to an end that is fine
   abbrev pub Match : {A B : Type 0} → (A → B → Type 0) → Result A → Result B → Type 0
   Match Same (Go a s) (Go b t) = Same a b × (s ≡ t) × StoreFits layout s.store
   Match Same (Go a s) (Halt f t) = ⊥
   Match Same (Halt e s) (Go b t) = ⊥
-  Match Same (Halt e s) (Halt f t) = (e ≡ f) × AreAlike e s t
+  Match Same (Halt e s) (Halt f t) = (e ≡ f) × AreAlike e s t × Fine e
 
   pub record Matches {A B : Type 0} (Same : A → B → Type 0) (r : Run A) (q : Run B) : Type 0 where
     pub by : (s : State) → StoreFits layout s.store → Match Same (r s) (q s)
@@ -49,25 +52,31 @@ module _ (layout : Layout) where
   pub done_matches : {A B : Type 0} {S : A → B → Type 0} (a : A) (b : B) → S a b → Matches S (done a) (done b)
   done_matches a b p = record { by = λ s k. (p, refl, k) }
 
-  pub over_matches : {A B : Type 0} {S : A → B → Type 0} (e : End) → Matches S (over {A = A} e) (over {A = B} e)
-  over_matches e = record { by = λ s k. (refl, same_alike e s) }
+  pub over_matches : {A B : Type 0} {S : A → B → Type 0} (e : End) → Fine e → Matches S (over {A = A} e) (over {A = B} e)
+  over_matches e p = record { by = λ s k. (refl, same_alike e s, p) }
 
   pub either_matches : {A B : Type 0} {S : A → B → Type 0} (b : Bool) {r r' : Run A} {q q' : Run B} → Matches S r q → Matches S r' q' → Matches S (either b r r') (either b q q')
   either_matches true h k = record { by = λ s f. h.by s f }
   either_matches false h k = record { by = λ s f. k.by s f }
 
-  -- a run does what it does
-  pub self_match : {A : Type 0} (x : Result A) (IsCheck : ℕ → Type 0) (IsSo : A → Type 0) → ResultFits layout IsCheck IsSo x → Match (λ a b. (a ≡ b) × IsSo a) x x
-  self_match (Go a s) IsCheck IsSo (p, k) = ((refl, p), refl, k)
-  self_match (Halt e s) IsCheck IsSo (p, k) = (refl, same_alike e s)
+  -- ---- what both sides do
 
-  pub self_matches : {A : Type 0} {IsCheck : ℕ → Type 0} {IsSo : A → Type 0} {r : Run A} → Keeps layout IsCheck IsSo r → Matches (λ a b. (a ≡ b) × IsSo a) r r
-  self_matches {IsCheck = IsCheck} {IsSo = IsSo} {r = r} h = record { by = λ s k. self_match (r s) IsCheck IsSo (h.by s k) }
+  pub demand_match : (y : Bool) (e : End) (ok : Bool) → Fine e → Fine (Over Stopped) → (s : State) → StoreFits layout s.store → Match AnyTwo (demand y e ok s) (demand y e ok s)
+  demand_match y e true p q s k = (tt, refl, k)
+  demand_match true e false p q s k = (refl, same_alike e s, p)
+  demand_match false e false p q s k = (refl, refl, q)
 
-  demand_match : (y : Bool) (e : End) (ok : Bool) (s : State) → StoreFits layout s.store → Match {A = Unit {0}} {B = Unit {0}} (λ a b. Unit {0}) (demand y e ok s) (demand y e ok s)
-  demand_match y e true s k = (tt, refl, k)
-  demand_match true e false s k = (refl, same_alike e s)
-  demand_match false e false s k = (refl, refl)
+  pub choose_matches : Fine (Over OutOfChoices) → Matches (λ y z. y ≡ z) choose choose
+  choose_matches p = record { by = λ s k. at s.choices s k } where
+    at : (cs : List ℤ) (s : State) → StoreFits layout s.store → Match (λ y z. y ≡ z) (take_choice cs s) (take_choice cs s)
+    at [] s k = (refl, refl, p)
+    at (c ∷ cs) s k = (refl, refl, k)
 
-  pub demand_matches : (y : Bool) (e : End) (ok : Bool) → Matches {A = Unit {0}} {B = Unit {0}} (λ a b. Unit {0}) (demand y e ok) (demand y e ok)
-  demand_matches y e ok = record { by = λ s k. demand_match y e ok s k }
+  pub write_matches : (a : Address) (v : CellValue) → FitsAt layout (layout a.object) a.offset v → Matches AnyTwo (write a v) (write a v)
+  write_matches a v h = record { by = λ s k. (tt, refl, fits_cell layout s.store a v k h) }
+
+  pub enliven_matches : (n : ℕ) → Matches AnyTwo (enliven n) (enliven n)
+  enliven_matches n = record { by = λ s k. (tt, refl, fits_live layout s.store n true k) }
+
+  pub bury_matches : (n : ℕ) → Matches AnyTwo (bury n) (bury n)
+  bury_matches n = record { by = λ s k. (tt, refl, fits_live layout s.store n false k) }
