@@ -1,13 +1,15 @@
 -- The code of an expression does what the expression does.
 use Rattle.std.proofs.Common.{◌≡◌, ℕ, zero, suc, ◌<◌, ◌≤◌, ℤ, pos, Bool, true, false, not, List, [], ◌∷◌, Option, Some, None, refl, sym, ap, subst, ◌∙◌, arith}
-use Rattle.std.specs.Prelude.{◌==◌, ◌||◌, if◌then◌else◌}
+use Rattle.std.specs.Prelude.{◌==◌, ◌||◌, ◌&&◌, if◌then◌else◌, slice_get}
 use Rattle.std.specs.Ordering.{int_eq}
 use Rattle.l2_bits.specs.declared.types.Ty.{Ty}
 use Rattle.l2_bits.specs.Types.{int_type}
 use Rattle.l2_bits.specs.Values.{IsValue, wrap}
 use Rattle.l2_bits.specs.declared.operators.Op.{Op}
 use Rattle.l2_bits.specs.declared.operators.Op.TheVariants as arithmetic
-use Rattle.l2_bits.specs.Operators.{overflows}
+use Rattle.l2_bits.specs.Operators.{overflows, convert}
+use Rattle.l2_bits.proofs.Wraps.{wrap_value}
+use Rattle.l2_bits.proofs.OperatorValues.{convert_value}
 use Rattle.l2_runs.specs.declared.cells.CellType.{CellType}
 use Rattle.l2_runs.specs.declared.cells.CellType.TheVariants.{Integer, Pointer}
 use Rattle.l2_runs.specs.declared.cells.CellValue.{CellValue}
@@ -19,26 +21,32 @@ use Rattle.l2_runs.specs.declared.operators.UnaryOperator.TheVariants.{Negate, N
 use Rattle.l2_runs.specs.declared.operators.BinaryOperator.{BinaryOperator}
 use Rattle.l2_runs.specs.declared.operators.BinaryOperator.TheVariants as binary_operator
 use Rattle.l2_runs.specs.Operators.{truth, is_zero, unary, binary, unary_overflows, binary_overflows}
-use Rattle.l2_runs.specs.Fits.{Layout, CellFits, StoreFits}
-use Rattle.l2_runs.specs.Runs.{State, End, Over, Result, Go, Halt, Run, on_go, and_then, done, demand, check}
+use Rattle.l2_runs.specs.Fits.{Layout, CellFits, FitsAt, StoreFits}
+use Rattle.l2_runs.proofs.Stores.{fits_read, fits_cell}
+use Rattle.l2_runs.specs.Runs.{State, End, Over, Result, Go, Halt, Run, on_go, and_then, done, demand, check, choose, read, write}
 use Rattle.l2_runs.specs.Loops.{Limit, Tests}
-use Rattle.l2_program.specs.Types.{is_computing, is_arithmetic, given}
-use Rattle.l2_meaning.specs.Meaning.{Value, Calls, number, number_of, holds}
+use Rattle.l2_runs.specs.Store.{Address, cell_at}
+use Rattle.l2_program.specs.Checked as tree
+use Rattle.l2_program.specs.Checked.{TypedTree}
+use Rattle.l2_program.specs.Types.{type_of, is_computing, is_arithmetic, given}
+use Rattle.l2_meaning.specs.Meaning.{Value, Calls, Setting, number, number_of, holds, value, put, first_of}
+use Rattle.l2_meaning.specs.Lawful.{IsTyped, IsInteger}
 use Rattle.l2_meaning.proofs.Numbers.{unary_value, binary_value}
 use Rattle.l2_code.specs.declared.action.Operator.TheVariants as operator
 use Rattle.l2_code.specs.declared.action.Operand.{Operand}
 use Rattle.l2_code.specs.declared.action.Operand.TheVariants.{Constant, Temp}
 use Rattle.l2_code.specs.declared.action.Test.TheVariants as test
 use Rattle.l2_code.specs.declared.action.Computation.TheVariants.{Numbers, Convert, Move, Pointers, Passes}
-use Rattle.l2_code.specs.declared.action.Action.TheVariants.{Check}
+use Rattle.l2_code.specs.declared.action.Action.TheVariants.{Check, Choice, Read, Write}
 use Rattle.l2_code.specs.Trees.{Node, Do, Nodes, none, more}
-use Rattle.l2_code.specs.Values.{Types, Temps, operand_value, operate, is_true}
+use Rattle.l2_code.specs.Values.{Types, Temps, with_temp, operand_value, operate, is_true, same_type, is_type, cell_of}
 use Rattle.l2_code.specs.Machine.{Way, On, Out, follow, node, nodes}
 use Rattle.l2_code.specs.Machine as machine
-use Rattle.l2_lower.specs.Emitting.{join, only, Emitted, behind, then_nodes, nothing, result, checked, computed, zero_number, overflow_checked, unary_code, binary_code}
-use Rattle.l2_lower.proofs.Matches.{AnyTwo, Match, Matches, then_matches, weaker_matches, done_matches, demand_match}
-use Rattle.l2_lower.proofs.Joins.{join_is, join_matches}
-use Rattle.l2_lower.proofs.Computing.{Stay, IsBelow, below_more, operand_stays, stay_less, stay_again, Computes, numbers_compute, convert_computes, overflow_computes, truth_is}
+use Rattle.l2_lower.specs.Emitting.{join, only, cell, Emitted, behind, then_nodes, nothing, result, checked, computed, zero_number, overflow_checked, unary_code, binary_code, conversion, truth_code, expression, condition}
+use Rattle.l2_lower.proofs.Converted.{same_types, same_type_self, convert_same}
+use Rattle.l2_lower.proofs.Matches.{AnyTwo, Match, Matches, then_matches, weaker_matches, done_matches, demand_match, choose_matches, told_matches}
+use Rattle.l2_lower.proofs.Joins.{join_is, join_matches, only_is, then_done}
+use Rattle.l2_lower.proofs.Computing.{with_temp_same, with_temp_other, Stay, IsBelow, below_more, operand_stays, stay_less, stay_again, Computes, nothing_computes, numbers_compute, convert_computes, overflow_computes, truth_is}
 
 -- an operand's value is what an expression of these types gives; none stands for `void`
 abbrev pub Holds : Layout → List CellType → CellValue → Value → Type 0
@@ -183,3 +191,137 @@ module _ (cells : Layout) (pointed : ℕ → List CellType) (Fine : End → Type
   binary_gives binary_operator.GreaterEqual ty c m a d u x y h = comparison_gives int_type c _ m u _ (numbers_compute code_here b m operator.Le ty d a u y x _ h.right h.left refl) (binary_value binary_operator.GreaterEqual ty x y)
   binary_gives binary_operator.Equal ty c m a d u x y h = comparison_gives int_type c _ m u _ (numbers_compute code_here b m operator.Eq ty a d u x y _ h.left h.right refl) (binary_value binary_operator.Equal ty x y)
   binary_gives binary_operator.NotEqual ty c m a d u x y h = comparison_gives int_type c _ m u _ (numbers_compute code_here b m operator.Ne ty a d u x y _ h.left h.right (ap Some (ne_is (int_eq x y)))) (binary_value binary_operator.NotEqual ty x y)
+
+  -- ---- conversions and conditions
+
+  conversion_gives : (from to : Ty) (m : ℕ) (a : Operand) (u : Temps) (z : ℤ) → IsBelow m a → operand_value u a ≡ Number z → IsValue from z → Gives (Integer to ∷ []) (conversion m (Integer from ∷ []) to a) m u (done (number (convert to z)))
+  conversion_gives from to m a u z h e v = go (same_type (Integer to) (Integer from)) refl where
+    go : (x : Bool) → same_type (Integer to) (Integer from) ≡ x → Gives (Integer to ∷ []) (if x && true then nothing m a else computed m (Convert to a)) m u (done (number (convert to z)))
+    go true p =
+        let k : IsValue to z = subst (λ t. IsValue t z) (sym (same_types to from p)) v in
+        subst (λ x. Gives (Integer to ∷ []) (nothing m a) m u (done (number x))) (sym (convert_same to z k))
+        (number_gives to (nothing m a) m u z (subst (λ c. Computes code_here b m (nothing m a) u c) e (nothing_computes code_here b m a u h)) k)
+    go false p = number_gives to _ m u _ (convert_computes code_here b m to a u z e) (convert_value to z)
+
+  differs_is : (z : ℤ) → is_true (Number (truth (not (int_eq z (pos 0))))) ≡ holds (number z)
+  differs_is z = go (int_eq z (pos 0)) where
+    go : (x : Bool) → is_true (Number (truth (not x))) ≡ (if x then false else true)
+    go true = refl
+    go false = refl
+
+  -- ---- addresses
+
+  placed : ℕ → ℕ → Bool → Option Address
+  placed o f true = Some (record { object = o; offset = f })
+  placed o f false = None
+
+  pub cell_is : (o f : ℕ) (ty : CellType) → slice_get (cells o) f ≡ Some ty → cell_of cells ty (At o f) ≡ Some (record { object = o; offset = f })
+  unfolding placed
+  cell_is o f ty e =
+      (λ i. placed o f (is_type ty (e i)))
+      ∙ (λ i. placed o f (same_type_self ty i))
+
+  only_cell : (types : List CellType) (ty : CellType) → types ≡ ty ∷ [] → slice_get types 0 ≡ Some ty
+  only_cell types ty e = ap (λ ts. slice_get ts 0) e
+
+  -- ---- instructions
+
+  result_held : (ty : CellType) (n : ℕ) (t : Temps) (v : CellValue) → CellFits cells ty v → IsHeld cells (ty ∷ []) (Temp n) (suc n) n t (with_temp t n v) (v ∷ [])
+  result_held ty n t v h = record {
+    holds = (ap (λ c. c ∷ []) (sym (with_temp_same t n v)), subst (λ c. CellFits cells ty c) (sym (with_temp_same t n v)) h);
+    stay = λ i l. with_temp_other t n i v l;
+    grows = omega arith;
+    below = omega arith;
+  }
+
+  choice_gives : (ty : Ty) (n : ℕ) (t : Temps) → Gives (Integer ty ∷ []) (result n (Choice n ty)) n t (and_then choose (λ c. done (number (wrap ty c))))
+  choice_gives ty n t =
+      subst (λ (r : Run Way). Matches cells Fine (IsGiven cells (Integer ty ∷ []) (Temp n) (suc n) n t) (and_then choose (λ c. done (number (wrap ty c)))) r) (sym (only_is code_here b (Choice n ty) t))
+      (then_matches cells Fine (choose_matches cells Fine (fine OutOfChoices)) chosen)
+    where
+      chosen : (y z : ℤ) → y ≡ z → Matches cells Fine (IsGiven cells (Integer ty ∷ []) (Temp n) (suc n) n t) (done (number (wrap ty y))) (done (On (with_temp t n (Number (wrap ty z)))))
+      chosen y z e =
+          subst (λ x. Matches cells Fine (IsGiven cells (Integer ty ∷ []) (Temp n) (suc n) n t) (done (number (wrap ty y))) (done (On (with_temp t n (Number (wrap ty x)))))) e
+          (done_matches cells Fine (number (wrap ty y)) (On (with_temp t n (Number (wrap ty y)))) (result_held (Integer ty) n t (Number (wrap ty y)) (wrap_value ty y)))
+
+  read_gives : (ty : CellType) (o n : ℕ) (t : Temps) → cells o ≡ ty ∷ [] → Gives (ty ∷ []) (result n (Read n ty (cell o 0))) n t (and_then (read (first_of o)) (λ v. done (v ∷ [])))
+  read_gives ty o n t e =
+      subst (λ (r : Run Way). Matches cells Fine (IsGiven cells (ty ∷ []) (Temp n) (suc n) n t) (and_then (read (first_of o)) (λ v. done (v ∷ []))) r) (sym (only_is code_here b (Read n ty (cell o 0)) t))
+      (record { by = at })
+    where
+      at : (s : State) → StoreFits cells s.store → Match cells Fine (IsGiven cells (ty ∷ []) (Temp n) (suc n) n t) (Go (cell_at s.store (first_of o) ∷ []) s) (machine.act code_here b (Read n ty (cell o 0)) t s)
+      at s k =
+          subst (λ (c : Option Address). Match cells Fine (IsGiven cells (ty ∷ []) (Temp n) (suc n) n t) (Go (cell_at s.store (first_of o) ∷ []) s) (on_go (machine.or_stuck c s) (λ a. and_then (read a) (λ v. done (On (with_temp t n v)))))) (sym (cell_is o 0 ty (only_cell (cells o) ty e)))
+          (result_held ty n t (cell_at s.store (first_of o)) (fits_read cells s.store o ty k e), refl, k)
+
+  -- a cell of an object takes an operand's value
+  pub write_does : (ty : CellType) (o f : ℕ) (a : Operand) (t : Temps) (c : CellValue) → slice_get (cells o) f ≡ Some ty → FitsAt cells (cells o) f c → operand_value t a ≡ c →
+      Matches cells Fine (λ u w. w ≡ On t) (write (record { object = o; offset = f }) c) (machine.act code_here b (Write ty (cell o f) a) t)
+  write_does ty o f a t c e h v = record { by = at } where
+    at : (s : State) → StoreFits cells s.store → Match cells Fine (λ u w. w ≡ On t) (write (record { object = o; offset = f }) c s) (machine.act code_here b (Write ty (cell o f) a) t s)
+    at s k =
+        subst (λ (x : Option Address). Match cells Fine (λ u w. w ≡ On t) (write (record { object = o; offset = f }) c s) (on_go (machine.or_stuck x s) (λ z. and_then (write z (operand_value t a)) (λ u. done (On t))))) (sym (cell_is o f ty e))
+        (subst (λ x. Match cells Fine (λ u w. w ≡ On t) (write (record { object = o; offset = f }) c s) (on_go (write (record { object = o; offset = f }) x s) (λ u. done (On t)))) (sym v)
+        (refl, refl, fits_cell cells s.store (record { object = o; offset = f }) c k h))
+
+  first_fits : (types : List CellType) (ty : CellType) (c : CellValue) → types ≡ ty ∷ [] → CellFits cells ty c → FitsAt cells types 0 c
+  first_fits types ty c e h = subst (λ ts. FitsAt cells ts 0 c) (sym e) h
+
+  -- the one cell of an object takes an operand's value
+  pub put_does : (ty : CellType) (o : ℕ) (a : Operand) (t : Temps) (v : Value) → cells o ≡ ty ∷ [] → Holds cells (ty ∷ []) (operand_value t a) v →
+      Matches cells Fine (λ u w. w ≡ On t) (put (first_of o) v) (nodes code_here b (only (Write ty (cell o 0) a)) t)
+  put_does ty o a t v e (p, fits) =
+      subst (λ (r : Run Way). Matches cells Fine (λ u w. w ≡ On t) (put (first_of o) v) r) (sym (only_is code_here b (Write ty (cell o 0) a) t))
+      (subst (λ vs. Matches cells Fine (λ u w. w ≡ On t) (put (first_of o) vs) (machine.act code_here b (Write ty (cell o 0) a) t)) (sym p)
+      (told_matches cells Fine (λ u. tt) (write_does ty o 0 a t (operand_value t a) (only_cell (cells o) ty e) (first_fits (cells o) ty (operand_value t a) e fits) refl) (λ u w q. q)))
+
+  -- ---- expressions
+
+  -- a truth value stands for whether a value holds
+  abbrev pub IsTested : Operand → ℕ → ℕ → Temps → Value → Way → Type 0
+  IsTested a k n t v (On u) = (is_true (operand_value u a) ≡ holds v) × (n ≤ k)
+  IsTested a k n t v (Out j) = ⊥
+
+  -- the truth value of a number
+  truth_does : (types : List CellType) (a : Operand) (m n : ℕ) (t u : Temps) (v : Value) → IsInteger types → IsHeld cells types a m n t u v → Matches cells Fine (IsTested (truth_code m types a).operand (truth_code m types a).next n t) (done v) (nodes code_here b (truth_code m types a).nodes u)
+  truth_does [] a m n t u v p h = absurd p
+  truth_does (Integer ty ∷ []) a m n t u v p h = go (number_in cells ty (operand_value u a) h.holds.1) where
+    tested : (z : ℤ) → Computes code_here b m (truth_code m (Integer ty ∷ []) a) u (Number (truth (not (int_eq z (pos 0))))) → v ≡ number z → Matches cells Fine (IsTested (truth_code m (Integer ty ∷ []) a).operand (truth_code m (Integer ty ∷ []) a).next n t) (done v) (nodes code_here b (truth_code m (Integer ty ∷ []) a).nodes u)
+    tested z c e =
+        subst (λ (r : Run Way). Matches cells Fine (IsTested (truth_code m (Integer ty ∷ []) a).operand (truth_code m (Integer ty ∷ []) a).next n t) (done v) r) (sym c.runs)
+        (done_matches cells Fine v (On c.after) (ap is_true c.value ∙ differs_is z ∙ ap holds (sym e), (let g = c.grows in let k = h.grows in omega arith)))
+
+    go : (z : ℤ) × (operand_value u a ≡ Number z) × IsValue ty z → Matches cells Fine (IsTested (truth_code m (Integer ty ∷ []) a).operand (truth_code m (Integer ty ∷ []) a).next n t) (done v) (nodes code_here b (truth_code m (Integer ty ∷ []) a).nodes u)
+    go (z, e, k) = tested z (numbers_compute code_here b m operator.Ne ty a zero_number u z (pos 0) _ e refl refl) (h.holds.0 ∙ ap (λ c. c ∷ []) e)
+  truth_does (Pointer ∷ []) a m n t u v p h = absurd p
+  truth_does (ty ∷ ty' ∷ types) a m n t u v p h = absurd h.holds
+
+  module _ (calls : Calls) (is_main : Bool) where
+    abbrev pub tree_here : Setting
+    tree_here = record { limit = limit; tests = tests; is_main = is_main; cells = cells; calls = calls }
+
+    -- the items of an expression and then those of its truth value
+    tested_by : (e : TypedTree) (n : ℕ) (t : Temps) → IsInteger (type_of e) → Gives (type_of e) (expression n e) n t (value tree_here b e) →
+        Matches cells Fine (IsTested (condition n e).operand (condition n e).next n t) (value tree_here b e) (nodes code_here b (condition n e).nodes t)
+    tested_by e n t p h =
+        subst (λ (r : Run Value). Matches cells Fine (IsTested (condition n e).operand (condition n e).next n t) r (nodes code_here b (condition n e).nodes t)) (λ i s. then_done (value tree_here b e s) i)
+        (join_matches code_here b cells Fine x.nodes (truth_code x.next (type_of e) x.operand).nodes t (value tree_here b e) done h after)
+      where
+        x : Emitted
+        x = expression n e
+
+        after : (v : Value) (w : Way) → IsGiven cells (type_of e) (expression n e).operand (expression n e).next n t v w → Matches cells Fine (IsTested (condition n e).operand (condition n e).next n t) (done v) (follow (nodes code_here b (truth_code (expression n e).next (type_of e) (expression n e).operand).nodes) w)
+        after v (On u) k = truth_does (type_of e) (expression n e).operand (expression n e).next n t u v p k
+        after v (Out j) k = absurd k
+
+    pub expression_gives : (e : TypedTree) → IsTyped cells e → (n : ℕ) (t : Temps) → Gives (type_of e) (expression n e) n t (value tree_here b e)
+    expression_gives (tree.Constant ty v) h n t = computes_match ty (nothing n (Constant v)) n t v (nothing_computes code_here b n (Constant v) t tt) h
+    expression_gives (tree.Choice ty) h n t = choice_gives ty n t
+    expression_gives (tree.Read ty (tree.Object o)) h n t = read_gives ty o n t h
+    expression_gives (tree.Unary op ty c e) (h, ty_is) n t =
+        behind_gives (type_of e) (Integer (given (is_computing op) ty) ∷ []) (expression n e) (λ m a. unary_code m op ty c a) n t (value tree_here b e) _ (expression_gives e h n t)
+        (λ v u k. ?)
+    expression_gives (tree.Binary op ty c x y) h n t = ?
+    expression_gives (tree.Convert ty e) h n t = ?
+    expression_gives (tree.Assign ty (tree.Object o) e) h n t = ?
+    expression_gives (tree.Assert c e) h n t = ?

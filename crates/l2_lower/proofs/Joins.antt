@@ -2,10 +2,11 @@
 use Rattle.std.proofs.Common.{◌≡◌, ℕ, zero, suc, Bool, List, [], ◌∷◌, refl, sym, ap, subst, ◌∙◌}
 use Rattle.l2_runs.specs.Fits.{Layout}
 use Rattle.l2_runs.specs.Runs.{State, End, Result, Go, Halt, Run, on_go, and_then, done}
+use Rattle.l2_code.specs.declared.action.Action.{Action}
 use Rattle.l2_code.specs.Trees.{Node, Nodes, none, more}
 use Rattle.l2_code.specs.Values.{Temps}
-use Rattle.l2_code.specs.Machine.{Setting, Way, On, Out, follow, node, nodes}
-use Rattle.l2_lower.specs.Emitting.{join}
+use Rattle.l2_code.specs.Machine.{Setting, Way, On, Out, follow, act, node, nodes}
+use Rattle.l2_lower.specs.Emitting.{join, only}
 use Rattle.l2_lower.proofs.Matches.{Match, Matches, then_matches}
 
 module _ {A B C : Type 0} where
@@ -34,3 +35,12 @@ module _ (g : Setting) (b : Bool) where
   pub join_matches : {A A' : Type 0} {S : A → Way → Type 0} {T : A' → Way → Type 0} (layout : Layout) (Fine : End → Type 0) (xs ys : Nodes) (t : Temps) (r : Run A) (f : A → Run A') →
       Matches layout Fine S r (nodes g b xs t) → ((a : A) (w : Way) → S a w → Matches layout Fine T (f a) (follow (nodes g b ys) w)) → Matches layout Fine T (and_then r f) (nodes g b (join xs ys) t)
   join_matches {T = T} layout Fine xs ys t r f h next = subst (λ (q : Run Way). Matches layout Fine T (and_then r f) q) (sym (join_is xs ys t)) (then_matches layout Fine h next)
+
+  follow_done : (x : Result Way) → on_go x (follow (λ t. done (On t))) ≡ x
+  follow_done (Go (On t) s) = refl
+  follow_done (Go (Out n) s) = refl
+  follow_done (Halt e s) = refl
+
+  -- one instruction alone
+  pub only_is : (a : Action) (t : Temps) → nodes g b (only a) t ≡ act g b a t
+  only_is a t = λ i s. follow_done (act g b a t s) i
