@@ -211,12 +211,10 @@ module _ (cells : Layout) (pointed : ℕ → List CellType) (Fine : End → Type
 
   -- ---- addresses
 
-  placed : ℕ → ℕ → Bool → Option Address
-  placed o f true = Some (record { object = o; offset = f })
-  placed o f false = None
+  abbrev placed : ℕ → ℕ → Bool → Option Address
+  placed o f x = if x then Some (record { object = o; offset = f }) else None
 
   pub cell_is : (o f : ℕ) (ty : CellType) → slice_get (cells o) f ≡ Some ty → cell_of cells ty (At o f) ≡ Some (record { object = o; offset = f })
-  unfolding placed
   cell_is o f ty e =
       (λ i. placed o f (is_type ty (e i)))
       ∙ (λ i. placed o f (same_type_self ty i))
@@ -278,8 +276,14 @@ module _ (cells : Layout) (pointed : ℕ → List CellType) (Fine : End → Type
   -- ---- expressions
 
   -- a truth value stands for whether a value holds
+  pub record IsTruth (a : Operand) (k n : ℕ) (t u : Temps) (v : Value) : Type 0 where
+    pub is : is_true (operand_value u a) ≡ holds v
+    pub stay : Stay n t u
+    pub grows : n ≤ k
+    pub below : IsBelow k a
+
   abbrev pub IsTested : Operand → ℕ → ℕ → Temps → Value → Way → Type 0
-  IsTested a k n t v (On u) = (is_true (operand_value u a) ≡ holds v) × (n ≤ k)
+  IsTested a k n t v (On u) = IsTruth a k n t u v
   IsTested a k n t v (Out j) = ⊥
 
   -- the truth value of a number
@@ -289,12 +293,69 @@ module _ (cells : Layout) (pointed : ℕ → List CellType) (Fine : End → Type
     tested : (z : ℤ) → Computes code_here b m (truth_code m (Integer ty ∷ []) a) u (Number (truth (not (int_eq z (pos 0))))) → v ≡ number z → Matches cells Fine (IsTested (truth_code m (Integer ty ∷ []) a).operand (truth_code m (Integer ty ∷ []) a).next n t) (done v) (nodes code_here b (truth_code m (Integer ty ∷ []) a).nodes u)
     tested z c e =
         subst (λ (r : Run Way). Matches cells Fine (IsTested (truth_code m (Integer ty ∷ []) a).operand (truth_code m (Integer ty ∷ []) a).next n t) (done v) r) (sym c.runs)
-        (done_matches cells Fine v (On c.after) (ap is_true c.value ∙ differs_is z ∙ ap holds (sym e), (let g = c.grows in let k = h.grows in omega arith)))
+        (done_matches cells Fine v (On c.after) (record {
+          is = ap is_true c.value ∙ differs_is z ∙ ap holds (sym e);
+          stay = stay_again n t u c.after h.stay (stay_less n m u c.after h.grows c.stay);
+          grows = let g = c.grows in let k = h.grows in omega arith;
+          below = c.below;
+        }))
 
     go : (z : ℤ) × (operand_value u a ≡ Number z) × IsValue ty z → Matches cells Fine (IsTested (truth_code m (Integer ty ∷ []) a).operand (truth_code m (Integer ty ∷ []) a).next n t) (done v) (nodes code_here b (truth_code m (Integer ty ∷ []) a).nodes u)
     go (z, e, k) = tested z (numbers_compute code_here b m operator.Ne ty a zero_number u z (pos 0) _ e refl refl) (h.holds.0 ∙ ap (λ c. c ∷ []) e)
   truth_does (Pointer ∷ []) a m n t u v p h = absurd p
   truth_does (ty ∷ ty' ∷ types) a m n t u v p h = absurd h.holds
+
+  -- ---- what follows operands
+
+  number_held : (types : List CellType) (ty : Ty) (a : Operand) (k n : ℕ) (t u : Temps) (v : Value) → types ≡ Integer ty ∷ [] → IsHeld cells types a k n t u v → (z : ℤ) × (v ≡ number z) × (operand_value u a ≡ Number z) × IsValue ty z
+  number_held types ty a k n t u v e h = go (subst (λ ts. Holds cells ts (operand_value u a) v) e h.holds) where
+    go : (v ≡ operand_value u a ∷ []) × CellFits cells (Integer ty) (operand_value u a) → (z : ℤ) × (v ≡ number z) × (operand_value u a ≡ Number z) × IsValue ty z
+    go (p, fits) = let q = number_in cells ty (operand_value u a) fits in (q.0, p ∙ ap (λ c. c ∷ []) q.1, q.1, q.2)
+
+  unary_at : (op : UnaryOperator) (ty : Ty) (c m : ℕ) (a : Operand) (u : Temps) (v : Value) (z : ℤ) → IsBelow m a → v ≡ number z → (operand_value u a ≡ Number z) × IsValue ty z →
+      Gives (Integer (given (is_computing op) ty) ∷ []) (unary_code m op ty c a) m u (and_then (check b c (not (unary_overflows op ty (number_of v)))) (λ w. done (number (unary op ty (number_of v)))))
+  unary_at op ty c m a u v z h e (p, q) =
+      subst (λ x. Gives (Integer (given (is_computing op) ty) ∷ []) (unary_code m op ty c a) m u (and_then (check b c (not (unary_overflows op ty (number_of x)))) (λ w. done (number (unary op ty (number_of x)))))) (sym e)
+      (unary_gives op ty c m a u z h p)
+
+  binary_at : (op : BinaryOperator) (ty : Ty) (c : ℕ) (a : Operand) (m n : ℕ) (t u : Temps) (v : Value) (types : List CellType) → types ≡ Integer ty ∷ [] → IsHeld cells types a m n t u v →
+      (d : Operand) (k : ℕ) (u' : Temps) (w : Value) (types' : List CellType) → types' ≡ Integer ty ∷ [] → IsHeld cells types' d k m u u' w →
+      Gives (Integer (given (is_arithmetic op) ty) ∷ []) (binary_code k op ty c a d) k u' (and_then (check b c (not (binary_overflows op ty (number_of v) (number_of w)))) (λ z. done (number (binary op ty (number_of v) (number_of w)))))
+  binary_at op ty c a m n t u v types e h d k u' w types' e' h' = go (number_held types ty a m n t u v e h) (number_held types' ty d k m u u' w e' h') where
+    go : (x : ℤ) × (v ≡ number x) × (operand_value u a ≡ Number x) × IsValue ty x → (y : ℤ) × (w ≡ number y) × (operand_value u' d ≡ Number y) × IsValue ty y →
+        Gives (Integer (given (is_arithmetic op) ty) ∷ []) (binary_code k op ty c a d) k u' (and_then (check b c (not (binary_overflows op ty (number_of v) (number_of w)))) (λ z. done (number (binary op ty (number_of v) (number_of w)))))
+    go (x, p, q, r) (y, p', q', r') =
+        subst (λ v. Gives (Integer (given (is_arithmetic op) ty) ∷ []) (binary_code k op ty c a d) k u' (and_then (check b c (not (binary_overflows op ty (number_of v) (number_of w)))) (λ z. done (number (binary op ty (number_of v) (number_of w)))))) (sym p)
+        (subst (λ w. Gives (Integer (given (is_arithmetic op) ty) ∷ []) (binary_code k op ty c a d) k u' (and_then (check b c (not (binary_overflows op ty x (number_of w)))) (λ z. done (number (binary op ty x (number_of w)))))) (sym p')
+        (binary_gives op ty c k a d u' x y (record {
+          left_below = below_more m k a h'.grows h.below;
+          right_below = h'.below;
+          left = operand_stays m u u' a h.below h'.stay ∙ q;
+          right = q';
+        })))
+
+  converted_at : (to : Ty) (types : List CellType) (a : Operand) (m n : ℕ) (t u : Temps) (v : Value) → IsInteger types → IsHeld cells types a m n t u v → Gives (Integer to ∷ []) (conversion m types to a) m u (done (number (convert to (number_of v))))
+  converted_at to [] a m n t u v p h = absurd p
+  converted_at to (Integer ty ∷ []) a m n t u v p h = go (number_held (Integer ty ∷ []) ty a m n t u v refl h) where
+    go : (z : ℤ) × (v ≡ number z) × (operand_value u a ≡ Number z) × IsValue ty z → Gives (Integer to ∷ []) (conversion m (Integer ty ∷ []) to a) m u (done (number (convert to (number_of v))))
+    go (z, e, q, r) = subst (λ x. Gives (Integer to ∷ []) (conversion m (Integer ty ∷ []) to a) m u (done (number (convert to (number_of x))))) (sym e) (conversion_gives ty to m a u z h.below q r)
+  converted_at to (Pointer ∷ []) a m n t u v p h = absurd p
+  converted_at to (ty ∷ ty' ∷ types) a m n t u v p h = absurd h.holds
+
+  assigned_at : (ty : CellType) (o : ℕ) (types : List CellType) (a : Operand) (m n : ℕ) (t u : Temps) (v : Value) → cells o ≡ ty ∷ [] → types ≡ ty ∷ [] → IsHeld cells types a m n t u v →
+      Gives (ty ∷ []) (record { nodes = only (Write ty (cell o 0) a); operand = a; next = m }) m u (and_then (put (first_of o) v) (λ z. done v))
+  assigned_at ty o types a m n t u v e e' h =
+      told_matches cells Fine (λ z. v) (put_does ty o a u v e holds) given where
+    holds : Holds cells (ty ∷ []) (operand_value u a) v
+    holds = subst (λ ts. Holds cells ts (operand_value u a) v) e' h.holds
+
+    given : (z : Unit {0}) (w : Way) → w ≡ On u → IsGiven cells (ty ∷ []) a m m u v w
+    given z w q = subst (λ x. IsGiven cells (ty ∷ []) a m m u v x) (sym q) (record { holds = holds; stay = λ i l. refl; grows = omega arith; below = h.below })
+
+  asserted : (c : ℕ) (a : Operand) (k n : ℕ) (t : Temps) (v : Value) (w : Way) → IsTested a k n t v w → Matches cells Fine (IsGiven cells [] a k n t) (and_then (check b c (holds v)) (λ z. done [])) (follow (nodes code_here b (checked c a)) w)
+  asserted zero a k n t v (On u) h = done_matches cells Fine [] (On u) (record { holds = refl; stay = h.stay; grows = h.grows; below = h.below })
+  asserted (suc c) a k n t v (On u) h = check_then (suc c) (holds v) a none u (done []) h.is (done_matches cells Fine [] (On u) (record { holds = refl; stay = h.stay; grows = h.grows; below = h.below }))
+  asserted c a k n t v (Out j) h = absurd h
 
   module _ (calls : Calls) (is_main : Bool) where
     abbrev pub tree_here : Setting
@@ -318,10 +379,19 @@ module _ (cells : Layout) (pointed : ℕ → List CellType) (Fine : End → Type
     expression_gives (tree.Constant ty v) h n t = computes_match ty (nothing n (Constant v)) n t v (nothing_computes code_here b n (Constant v) t tt) h
     expression_gives (tree.Choice ty) h n t = choice_gives ty n t
     expression_gives (tree.Read ty (tree.Object o)) h n t = read_gives ty o n t h
-    expression_gives (tree.Unary op ty c e) (h, ty_is) n t =
+    expression_gives (tree.Unary op ty c e) (h, is) n t =
         behind_gives (type_of e) (Integer (given (is_computing op) ty) ∷ []) (expression n e) (λ m a. unary_code m op ty c a) n t (value tree_here b e) _ (expression_gives e h n t)
-        (λ v u k. ?)
-    expression_gives (tree.Binary op ty c x y) h n t = ?
-    expression_gives (tree.Convert ty e) h n t = ?
-    expression_gives (tree.Assign ty (tree.Object o) e) h n t = ?
-    expression_gives (tree.Assert c e) h n t = ?
+        (λ v u k. let p = number_held (type_of e) ty _ _ n t u v is k in unary_at op ty c (expression n e).next (expression n e).operand u v p.0 k.below p.1 (p.2, p.3))
+    expression_gives (tree.Binary op ty c x y) (h, is, h', is') n t =
+        behind_gives (type_of x) (Integer (given (is_arithmetic op) ty) ∷ []) (expression n x) (λ m a. behind (expression m y) (λ k d. binary_code k op ty c a d)) n t (value tree_here b x) _ (expression_gives x h n t)
+        (λ v u k. behind_gives (type_of y) (Integer (given (is_arithmetic op) ty) ∷ []) (expression (expression n x).next y) (λ m d. binary_code m op ty c (expression n x).operand d) (expression n x).next u (value tree_here b y) _ (expression_gives y h' (expression n x).next u)
+        (λ w u' k'. binary_at op ty c (expression n x).operand (expression n x).next n t u v (type_of x) is k (expression (expression n x).next y).operand (expression (expression n x).next y).next u' w (type_of y) is' k'))
+    expression_gives (tree.Convert ty e) (h, is) n t =
+        behind_gives (type_of e) (Integer ty ∷ []) (expression n e) (λ m a. conversion m (type_of e) ty a) n t (value tree_here b e) _ (expression_gives e h n t)
+        (λ v u k. converted_at ty (type_of e) (expression n e).operand (expression n e).next n t u v is k)
+    expression_gives (tree.Assign ty (tree.Object o) e) (is, h, is') n t =
+        behind_gives (type_of e) (ty ∷ []) (expression n e) (λ m a. record { nodes = only (Write ty (cell o 0) a); operand = a; next = m }) n t (value tree_here b e) _ (expression_gives e h n t)
+        (λ v u k. assigned_at ty o (type_of e) (expression n e).operand (expression n e).next n t u v is is' k)
+    expression_gives (tree.Assert c e) (h, is) n t =
+        join_matches code_here b cells Fine (condition n e).nodes (checked c (condition n e).operand) t (value tree_here b e) _ (tested_by e n t is (expression_gives e h n t))
+        (asserted c (condition n e).operand (condition n e).next n t)

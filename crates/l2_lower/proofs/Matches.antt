@@ -60,14 +60,14 @@ module _ (layout : Layout) (Fine : End → Type 0) where
   either_matches false h k = record { by = λ s f. k.by s f }
 
   -- what is handed on is told in other terms
-  pub told_match : {A A' B : Type 0} {S : A → B → Type 0} {T : A' → B → Type 0} (x : Result A) (y : Result B) (h : A → A') → Match S x y → ((a : A) (b : B) → S a b → T (h a) b) → Match T (on_go x (λ a. done (h a))) y
-  told_match (Go a s) (Go b t) h (p, e, k) next = (next a b p, e, k)
-  told_match (Go a s) (Halt e t) h m next = absurd m
-  told_match (Halt e s) (Go b t) h m next = absurd m
-  told_match (Halt e s) (Halt d t) h m next = m
+  pub told_match : {A A' B : Type 0} {S : A → B → Type 0} (T : A' → B → Type 0) (x : Result A) (y : Result B) (h : A → A') → Match S x y → ((a : A) (b : B) → S a b → T (h a) b) → Match T (on_go x (λ a. done (h a))) y
+  told_match T (Go a s) (Go b t) h (p, e, k) next = (next a b p, e, k)
+  told_match T (Go a s) (Halt e t) h m next = absurd m
+  told_match T (Halt e s) (Go b t) h m next = absurd m
+  told_match T (Halt e s) (Halt d t) h m next = m
 
   pub told_matches : {A A' B : Type 0} {S : A → B → Type 0} {T : A' → B → Type 0} {r : Run A} {q : Run B} (h : A → A') → Matches S r q → ((a : A) (b : B) → S a b → T (h a) b) → Matches T (and_then r (λ a. done (h a))) q
-  told_matches {r = r} {q = q} h m next = record { by = λ s k. told_match (r s) (q s) h (m.by s k) next }
+  told_matches {T = T} {r = r} {q = q} h m next = record { by = λ s k. told_match T (r s) (q s) h (m.by s k) next }
 
   -- ---- what both sides do
 
