@@ -1,3 +1,5 @@
 pub mod Numbers
+pub mod Orders
+pub mod Loops
 pub mod Typed
 pub mod Starts

@@ -17,17 +17,15 @@ use Rattle.l2_program.specs.Types.{type_of, is_computing, is_arithmetic}
 use Rattle.l2_program.specs.Names.{declared_in, loops_in, checks_in}
 use Rattle.l2_program.specs.Programs.{ProgramTree, FunctionTree}
 use Rattle.l2_meaning.specs.Execution.{cells_of, main_among}
+use Rattle.l2_meaning.specs.Scopes.{behind, statics_of}
+use Rattle.l2_meaning.specs.Pointing.{Sets, ArePointsTo}
+use Rattle.l2_meaning.specs.Changes.{function_loop_sets, HaveSets}
 
 abbrev pub IsIn : ℕ → List ℕ → Type 0
 IsIn n [] = ⊥
 IsIn n (m ∷ ms) = (n ≡ m) ⊎ IsIn n ms
 
 -- ---- types
-
-abbrev pub IsScalar : List CellType → Type 0
-IsScalar [] = ⊥
-IsScalar (t ∷ []) = Unit {0}
-IsScalar (t ∷ u ∷ types) = ⊥
 
 abbrev pub IsInteger : List CellType → Type 0
 IsInteger [] = ⊥
@@ -48,7 +46,7 @@ IsTyped cells (Unary op ty c e) = IsTyped cells e × (type_of e ≡ Integer ty �
 IsTyped cells (Binary op ty c x y) = IsTyped cells x × (type_of x ≡ Integer ty ∷ []) × IsTyped cells y × (type_of y ≡ Integer ty ∷ [])
 IsTyped cells (Convert ty e) = IsTyped cells e × IsInteger (type_of e)
 IsTyped cells (Assign ty l e) = IsTypedLvalue cells (ty ∷ []) l × IsTyped cells e × (type_of e ≡ ty ∷ [])
-IsTyped cells (Assert c e) = IsTyped cells e × IsScalar (type_of e)
+IsTyped cells (Assert c e) = IsTyped cells e × IsInteger (type_of e)
 
 abbrev mutual
   -- in a function that returns such a value
@@ -59,9 +57,9 @@ abbrev mutual
   IsTypedStatement cells result (Initialise n e) = IsTyped cells e × (cells n ≡ type_of e)
   IsTypedStatement cells result (Label n) = Unit {0}
   IsTypedStatement cells result (Evaluate e) = IsTyped cells e
-  IsTypedStatement cells result (If e s) = IsTyped cells e × IsScalar (type_of e) × IsTypedStatement cells result s
-  IsTypedStatement cells result (IfElse e s t) = IsTyped cells e × IsScalar (type_of e) × IsTypedStatement cells result s × IsTypedStatement cells result t
-  IsTypedStatement cells result (While l named e s) = IsTyped cells e × IsScalar (type_of e) × IsTypedStatement cells result s
+  IsTypedStatement cells result (If e s) = IsTyped cells e × IsInteger (type_of e) × IsTypedStatement cells result s
+  IsTypedStatement cells result (IfElse e s t) = IsTyped cells e × IsInteger (type_of e) × IsTypedStatement cells result s × IsTypedStatement cells result t
+  IsTypedStatement cells result (While l named e s) = IsTyped cells e × IsInteger (type_of e) × IsTypedStatement cells result s
   IsTypedStatement cells result (Return e) = IsTyped cells e × (type_of e ≡ result)
 
   pub AreTyped : Layout → List CellType → CheckedTrees → Type 0
@@ -135,12 +133,6 @@ IsScoped is_static scope (Convert ty e) = IsScoped is_static scope e
 IsScoped is_static scope (Assign ty l e) = IsScopedLvalue is_static scope l × IsScoped is_static scope e
 IsScoped is_static scope (Assert c e) = IsScoped is_static scope e
 
--- the scope behind an item
-abbrev pub behind : List ℕ → CheckedTree → List ℕ
-behind scope (Declare n) = scope ++ n ∷ []
-behind scope (Initialise n e) = scope ++ n ∷ []
-behind scope s = scope
-
 abbrev mutual
   -- an object is in scope in its own initialiser, and from there to the end of its block (C11 6.2.1); its declaration has its storage
   pub IsScopedStatement : (ℕ → Bool) → List ℕ → CheckedTree → Type 0
@@ -179,14 +171,6 @@ HoldStatics cells n (o ∷ rest) values = HoldObject o.is_static cells n o.cells
 
 -- ---- programs
 
-abbrev pub is_static_object : Option ObjectInfo → Bool
-is_static_object None = false
-is_static_object (Some o) = o.is_static
-
--- whether an object is static
-abbrev pub statics_of : ProgramTree → ℕ → Bool
-statics_of p n = is_static_object (at_number p.objects n)
-
 abbrev pub objects_of : ProgramTree → ℕ → List ℕ
 objects_of p k = numbers_where (λ (o : ObjectInfo). o.function == k) 1 p.objects
 
@@ -206,6 +190,8 @@ pub record IsLawfulFunction (p : ProgramTree) (g : Listing) (k : ℕ) (f : Funct
   pub typed : IsTypedStatement (cells_of p) f.result f.body
   pub scoped : IsScopedStatement (statics_of p) f.parameters f.body
   pub checks : StatementHasChecks g f.body
+  -- its loops have the sets of its tree
+  pub loop_sets : HaveSets p.loops (function_loop_sets p f)
 
 abbrev pub main_result : List CellType
 main_result = Integer int_type ∷ []
@@ -247,6 +233,9 @@ pub record IsLawful (p : ProgramTree) : Type 0 where
   pub have_cells : HaveCells p.objects
   pub few_cells : cell_count p.objects ≤ 65536
   pub statics : HoldStatics (cells_of p) 1 p.objects p.static_values
+  -- what pointers may point to
+  pub sets : Sets
+  pub are_sets : ArePointsTo p sets
 
 -- one of the program's checks
 abbrev pub IsCheckOf : ProgramTree → ℕ → Type 0
