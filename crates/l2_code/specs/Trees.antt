@@ -33,6 +33,11 @@ abbrev pub items_of : List Item → Nodes
 items_of [] = none
 items_of (x ∷ rest) = more (tree_of x) (items_of rest)
 
+-- some nodes, and then others
+abbrev pub join : Nodes → Nodes → Nodes
+join none ys = ys
+join (more x rest) ys = more x (join rest ys)
+
 pub record CodeTree : Type 0 where
   pub objects : List CodeObject
   pub pointed : List Pointed

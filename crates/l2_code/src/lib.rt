@@ -5,6 +5,7 @@
 
 mod action;
 mod code;
+pub mod emit;
 mod sets;
 
 pub use action::{Action, Computation, Operand, Operator, PointerOperator, Test};
