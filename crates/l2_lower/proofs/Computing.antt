@@ -20,7 +20,7 @@ use Rattle.l2_code.specs.declared.action.Action.TheVariants.{Compute}
 use Rattle.l2_code.specs.Trees.{Node, Nodes, none, more}
 use Rattle.l2_code.specs.Values.{Types, Temps, no_temps, with_temp, operand_value, operate, as_number, on_numbers, converted, is_true, are_numbers, compute}
 use Rattle.l2_code.specs.Machine.{Setting, Way, On, Out, or_stuck, follow, node, nodes}
-use Rattle.l2_lower.specs.Emitting.{join, only, Emitted, nothing, result, or_zero, no_types, computed}
+use Rattle.l2_lower.specs.Emitting.{only, Emitted, nothing, result, or_zero, no_types, computed}
 
 pub with_temp_same : (t : Temps) (n : ℕ) (v : CellValue) → with_temp t n v n ≡ v
 with_temp_same t n v = grind (arith, nat_tests)

@@ -38,11 +38,11 @@ use Rattle.l2_code.specs.declared.action.Operand.TheVariants.{Constant, Temp}
 use Rattle.l2_code.specs.declared.action.Test.TheVariants as test
 use Rattle.l2_code.specs.declared.action.Computation.TheVariants.{Numbers, Convert, Move, Pointers, Passes}
 use Rattle.l2_code.specs.declared.action.Action.TheVariants.{Check, Choice, Read, Write}
-use Rattle.l2_code.specs.Trees.{Node, Do, Nodes, none, more}
+use Rattle.l2_code.specs.Trees.{Node, Do, Nodes, none, more, join}
 use Rattle.l2_code.specs.Values.{Types, Temps, with_temp, operand_value, operate, is_true, same_type, is_type, cell_of}
 use Rattle.l2_code.specs.Machine.{Way, On, Out, follow, node, nodes}
 use Rattle.l2_code.specs.Machine as machine
-use Rattle.l2_lower.specs.Emitting.{join, only, cell, Emitted, behind, then_nodes, nothing, result, checked, computed, zero_number, overflow_checked, unary_code, binary_code, conversion, truth_code, expression, condition}
+use Rattle.l2_lower.specs.Emitting.{only, cell, Emitted, behind, then_nodes, nothing, result, checked, computed, zero_number, overflow_checked, unary_code, binary_code, conversion, truth_code, expression, condition}
 use Rattle.l2_lower.proofs.Converted.{same_types, same_type_self, convert_same}
 use Rattle.l2_lower.proofs.Matches.{AnyTwo, Match, Matches, then_matches, weaker_matches, done_matches, demand_match, choose_matches, told_matches}
 use Rattle.l2_lower.proofs.Joins.{join_is, join_matches, only_is, then_done}
@@ -362,7 +362,7 @@ module _ (cells : Layout) (pointed : ℕ → List CellType) (Fine : End → Type
     tree_here = record { limit = limit; tests = tests; is_main = is_main; cells = cells; calls = calls }
 
     -- the items of an expression and then those of its truth value
-    tested_by : (e : TypedTree) (n : ℕ) (t : Temps) → IsInteger (type_of e) → Gives (type_of e) (expression n e) n t (value tree_here b e) →
+    pub tested_by : (e : TypedTree) (n : ℕ) (t : Temps) → IsInteger (type_of e) → Gives (type_of e) (expression n e) n t (value tree_here b e) →
         Matches cells Fine (IsTested (condition n e).operand (condition n e).next n t) (value tree_here b e) (nodes code_here b (condition n e).nodes t)
     tested_by e n t p h =
         subst (λ (r : Run Value). Matches cells Fine (IsTested (condition n e).operand (condition n e).next n t) r (nodes code_here b (condition n e).nodes t)) (λ i s. then_done (value tree_here b e s) i)

@@ -3,10 +3,11 @@ use Rattle.std.proofs.Common.{◌≡◌, ℕ, zero, suc, Bool, List, [], ◌∷�
 use Rattle.l2_runs.specs.Fits.{Layout}
 use Rattle.l2_runs.specs.Runs.{State, End, Result, Go, Halt, Run, on_go, and_then, done}
 use Rattle.l2_code.specs.declared.action.Action.{Action}
-use Rattle.l2_code.specs.Trees.{Node, Nodes, none, more}
+use Rattle.l2_code.specs.Trees.{Node, Nodes, none, more, join}
 use Rattle.l2_code.specs.Values.{Temps}
 use Rattle.l2_code.specs.Machine.{Setting, Way, On, Out, follow, act, node, nodes}
-use Rattle.l2_lower.specs.Emitting.{join, only}
+use Rattle.l2_lower.specs.Emitting.{only}
+use Rattle.l2_code.proofs.Joins.{nodes-join}
 use Rattle.l2_lower.proofs.Matches.{Match, Matches, then_matches}
 
 module _ {A B C : Type 0} where
@@ -20,16 +21,8 @@ then_done (Go a s) = refl
 then_done (Halt e s) = refl
 
 module _ (g : Setting) (b : Bool) where
-  followed_at : (x : Result Way) (f h : Temps → Run Way) → on_go (on_go x (follow f)) (follow h) ≡ on_go x (follow (λ t. and_then (f t) (follow h)))
-  followed_at (Go (On t) s) f h = refl
-  followed_at (Go (Out n) s) f h = refl
-  followed_at (Halt e s) f h = refl
-
   pub join_is : (xs ys : Nodes) (t : Temps) → nodes g b (join xs ys) t ≡ and_then (nodes g b xs t) (follow (nodes g b ys))
-  join_is none ys t = refl
-  join_is (more x xs) ys t =
-      ap {B = Run Way} (λ (f : Temps → Run Way). and_then (node g b x t) (follow f)) (λ i u. join_is xs ys u i)
-      ∙ sym (λ i s. followed_at (node g b x t s) (nodes g b xs) (nodes g b ys) i)
+  join_is xs ys t = λ i s. nodes-join g b xs ys t s i
 
   -- what is done by the first items, and then by the others
   pub join_matches : {A A' : Type 0} {S : A → Way → Type 0} {T : A' → Way → Type 0} (layout : Layout) (Fine : End → Type 0) (xs ys : Nodes) (t : Temps) (r : Run A) (f : A → Run A') →
@@ -41,6 +34,9 @@ module _ (g : Setting) (b : Bool) where
   follow_done (Go (Out n) s) = refl
   follow_done (Halt e s) = refl
 
-  -- one instruction alone
+  -- one item alone
+  pub one_is : (x : Node) (t : Temps) → nodes g b (more x none) t ≡ node g b x t
+  one_is x t = λ i s. follow_done (node g b x t s) i
+
   pub only_is : (a : Action) (t : Temps) → nodes g b (only a) t ≡ act g b a t
   only_is a t = λ i s. follow_done (act g b a t s) i

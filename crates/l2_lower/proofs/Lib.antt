@@ -4,3 +4,4 @@ pub mod Joins
 pub mod Computing
 pub mod Converted
 pub mod Expressions
+pub mod Statements

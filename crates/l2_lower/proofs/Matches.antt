@@ -69,6 +69,16 @@ module _ (layout : Layout) (Fine : End → Type 0) where
   pub told_matches : {A A' B : Type 0} {S : A → B → Type 0} {T : A' → B → Type 0} {r : Run A} {q : Run B} (h : A → A') → Matches S r q → ((a : A) (b : B) → S a b → T (h a) b) → Matches T (and_then r (λ a. done (h a))) q
   told_matches {T = T} {r = r} {q = q} h m next = record { by = λ s k. told_match T (r s) (q s) h (m.by s k) next }
 
+  -- one side goes on, where the other has come to its end
+  pub alone_match : {A B B' : Type 0} {S : A → B → Type 0} {T : A → B' → Type 0} (x : Result A) (y : Result B) (g : B → Run B') → Match S x y → ((a : A) (b : B) → S a b → Matches T (done a) (g b)) → Match T x (on_go y g)
+  alone_match {T = T} (Go a s) (Go b t) g (p, e, k) next = subst (λ z. Match T (Go a s) (g b z)) e ((next a b p).by s k)
+  alone_match (Go a s) (Halt e t) g m next = absurd m
+  alone_match (Halt e s) (Go b t) g m next = absurd m
+  alone_match (Halt e s) (Halt d t) g m next = m
+
+  pub alone_matches : {A B B' : Type 0} {S : A → B → Type 0} {T : A → B' → Type 0} {r : Run A} {q : Run B} {g : B → Run B'} → Matches S r q → ((a : A) (b : B) → S a b → Matches T (done a) (g b)) → Matches T r (and_then q g)
+  alone_matches {r = r} {q = q} {g = g} m next = record { by = λ s k. alone_match (r s) (q s) g (m.by s k) next }
+
   -- ---- what both sides do
 
   pub demand_match : (y : Bool) (e : End) (ok : Bool) → Fine e → Fine (Over Stopped) → (s : State) → StoreFits layout s.store → Match AnyTwo (demand y e ok s) (demand y e ok s)

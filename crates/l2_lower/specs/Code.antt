@@ -14,8 +14,8 @@ use Rattle.l2_code.specs.declared.code.CodeObject.{CodeObject}
 use Rattle.l2_code.specs.declared.code.CodeCheck.{CodeCheck}
 use Rattle.l2_code.specs.declared.code.CodeLoop.{CodeLoop}
 use Rattle.l2_code.specs.declared.action.Action.TheVariants.{End}
-use Rattle.l2_code.specs.Trees.{Node, Do, Block, Loop, Nodes, none, more, CodeTree}
-use Rattle.l2_lower.specs.Emitting.{join, only}
+use Rattle.l2_code.specs.Trees.{none, join, CodeTree}
+use Rattle.l2_lower.specs.Emitting.{only}
 use Rattle.l2_lower.specs.Statements.{Part, part, followed, declaration, deads, statement}
 
 -- ---- the lists
@@ -58,15 +58,6 @@ code p = record {
   body = (main_code (cells_of p) (main_among p.names p.functions)).nodes;
 }
 
--- ---- how long it is
-
-abbrev mutual
-  -- the instructions of an item; a loop has one at its head and one at its end
-  pub node_length : Node → ℕ
-  node_length (Do a) = 1
-  node_length (Block all) = nodes_length all
-  node_length (Loop l all) = 2 + nodes_length all
-
-  pub nodes_length : Nodes → ℕ
-  nodes_length none = 0
-  nodes_length (more x rest) = node_length x + nodes_length rest
+-- how many instructions code may have
+abbrev pub most_instructions : ℕ
+most_instructions = 65536

@@ -26,14 +26,10 @@ use Rattle.l2_code.specs.declared.action.Computation.{Computation}
 use Rattle.l2_code.specs.declared.action.Computation.TheVariants.{Numbers, Convert, Move, Pointers, Passes}
 use Rattle.l2_code.specs.declared.action.Action.{Action}
 use Rattle.l2_code.specs.declared.action.Action.TheVariants.{Compute, Read, Write, Choice, Check}
-use Rattle.l2_code.specs.Trees.{Node, Do, Nodes, none, more}
+use Rattle.l2_code.specs.Trees.{Do, Nodes, none, more, join}
 use Rattle.l2_code.specs.Values.{Types, no_temps, begins_with, compute}
 
--- these items, and then those
-abbrev pub join : Nodes → Nodes → Nodes
-join none ys = ys
-join (more x xs) ys = more x (join xs ys)
-
+-- one instruction
 abbrev pub only : Action → Nodes
 only a = more (Do a) none
 

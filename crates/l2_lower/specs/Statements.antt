@@ -8,12 +8,12 @@ use Rattle.l2_program.specs.Checked as tree
 use Rattle.l2_program.specs.Checked.{TypedTree, CheckedTree, CheckedTrees}
 use Rattle.l2_program.specs.Types.{type_of}
 use Rattle.l2_meaning.specs.Meaning.{declared}
-use Rattle.l2_meaning.specs.Lawful as lawful
+use Rattle.l2_meaning.specs.Scopes as scopes
 use Rattle.l2_code.specs.declared.action.Operand.{Operand}
 use Rattle.l2_code.specs.declared.action.Operand.TheVariants.{Constant, Temp}
 use Rattle.l2_code.specs.declared.action.Action.TheVariants.{Write, Choice, Unless, Goto, Live, Dead, End}
-use Rattle.l2_code.specs.Trees.{Node, Do, Block, Loop, Nodes, none, more}
-use Rattle.l2_lower.specs.Emitting.{join, only, Emitted, cell, expression, condition}
+use Rattle.l2_code.specs.Trees.{Do, Block, Loop, Nodes, none, more, join}
+use Rattle.l2_lower.specs.Emitting.{only, Emitted, cell, expression, condition}
 
 -- items, and the number of the temporary that comes next
 pub record Part : Type 0 where
@@ -89,4 +89,4 @@ abbrev mutual
 
   pub statements : Layout → List ℕ → ℕ → CheckedTrees → Part
   statements cells scope n tree.none = part n none
-  statements cells scope n (tree.more s rest) = followed (statement cells scope n s) (λ m. statements cells (lawful.behind scope s) m rest)
+  statements cells scope n (tree.more s rest) = followed (statement cells scope n s) (λ m. statements cells (scopes.behind scope s) m rest)
