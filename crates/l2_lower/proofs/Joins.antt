@@ -15,6 +15,10 @@ module _ {A B C : Type 0} where
   assoc_at (Go a s) h k = refl
   assoc_at (Halt o s) h k = refl
 
+  pub assoc_twice : {D : Type 0} (x : Result A) (h : A → Run B) (k : B → Run C) (m : C → Run D) → on_go (on_go (on_go x h) k) m ≡ on_go x (λ a. and_then (and_then (h a) k) m)
+  assoc_twice (Go a s) h k m = refl
+  assoc_twice (Halt o s) h k m = refl
+
 -- a run that comes to its end is itself
 pub then_done : {A : Type 0} (x : Result A) → on_go x done ≡ x
 then_done (Go a s) = refl

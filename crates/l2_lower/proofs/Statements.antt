@@ -1,5 +1,5 @@
 -- The code of a statement does what the statement does.
-use Rattle.std.proofs.Common.{◌≡◌, ℕ, zero, suc, ◌<◌, ◌≤◌, ℤ, pos, Bool, true, false, not, List, [], ◌∷◌, ◌++◌, Option, Some, None, refl, sym, ap, subst, ◌∙◌, arith}
+use Rattle.std.proofs.Common.{◌≡◌, ℕ, zero, suc, ◌<◌, ◌≤◌, ℤ, pos, Bool, true, false, not, List, [], ◌∷◌, ◌++◌, Option, Some, None, refl, sym, ap, subst, ◌∙◌, arith, ◌⊎◌, inl, inr}
 use Rattle.std.specs.Prelude.{slice_get}
 use Rattle.l2_bits.specs.declared.types.Ty.{Ty}
 use Rattle.l2_bits.specs.Values.{IsValue, wrap}
@@ -34,7 +34,7 @@ use Rattle.l2_lower.specs.Emitting.{only, cell, Emitted, expression, condition}
 use Rattle.l2_lower.specs.Statements.{Part, filled, declaration, initialised, deads, statement, statements}
 use Rattle.l2_lower.proofs.Matches.{AnyTwo, Match, Matches, then_match, then_matches, weaker_matches, done_matches, choose_matches, enliven_matches, bury_matches, told_matches, alone_matches}
 use Rattle.l2_lower.proofs.MatchLoops.{AreFine, StartsAlike, Turned, Left, loop_match}
-use Rattle.l2_lower.proofs.Joins.{join_is, join_matches, one_is, only_is, assoc_at}
+use Rattle.l2_lower.proofs.Joins.{join_is, join_matches, one_is, only_is, assoc_twice}
 use Rattle.l2_lower.proofs.Computing.{with_temp_same}
 use Rattle.l2_lower.proofs.Expressions.{Holds, IsHeld, IsGiven, IsTruth, IsTested, code_here, tree_here, write_does, put_does, expression_gives, tested_by}
 
@@ -304,13 +304,35 @@ module _ (cells : Layout) (pointed : ℕ → List CellType) (Fine : End → Type
 
     returned_by : (b : Bool) (scope : List ℕ) (types : List CellType) (a : Operand) (k n : ℕ) (t : Temps) (v : Value) (w : Way) → IsGiven cells types a k n t v w →
         Matches cells Fine Leads (either true (over (Over Ended)) (done (Returned v))) (follow (nodes code_at b (join (deads scope) (only action.End))) w)
-    returned_by b scope types a k n t v (On u) p = record { by = λ s f. (ends_do b scope u).by s f }
+    returned_by b scope types a k n t v (On u) p = record { by = λ s f. (ends_do b {A = Ending} {T = Leads} scope u).by s f }
     returned_by b scope types a k n t v (Out j) p = absurd p
+
+    goes : (u : Unit {0}) (w : Way) → GoesOn u w → Leads Next w
+    goes u (On t) p = tt
+    goes u (Out n) p = absurd p
+
+    one_side : (b : Bool) (a : Operand) (k n : ℕ) (t : Temps) (ys : Nodes) (r : Run Ending) → ((u : Temps) → Does b r ys u) → (v : Value) (w : Way) → IsTested cells pointed Fine fine limit tests b a k n t v w →
+        Matches cells Fine InBlock (either (holds v) r (done Next)) (follow (nodes code_at b (more (Do (action.Unless a 0)) ys)) w)
+    one_side b a k n t ys r h v (On u) p = unless_does b (holds v) a ys u r (done Next) p.is (weaker_matches cells Fine (h u) (leads_in b)) (done_matches cells Fine Next (Out 0) tt)
+    one_side b a k n t ys r h v (Out j) p = absurd p
+
+    turn_at : (b : Bool) (e : TypedTree) (n : ℕ) (t : Temps) (ys : Nodes) (r : Run Ending) → Matches cells Fine (IsTested cells pointed Fine fine limit tests b (condition n e).operand (condition n e).next n t) (value tree_at b e) (nodes code_at b (condition n e).nodes t) →
+        ((u : Temps) → Does b r ys u) → Matches cells Fine InTurn (while_turn (value tree_at b e) r) (nodes code_at b (join (condition n e).nodes (more (Do (action.Unless (condition n e).operand 0)) ys)) t)
+    turn_at b e n t ys r h h' = join_matches code_at b cells Fine (condition n e).nodes (more (Do (action.Unless (condition n e).operand 0)) ys) t (value tree_at b e) _ h (turn_does b (condition n e).operand (condition n e).next n t ys r h')
+
+    in_left : (l : ℕ) (xs ys : List ℕ) → IsIn l xs → IsIn l (xs ++ ys)
+    in_left l [] ys h = absurd h
+    in_left l (x ∷ xs) ys (inl e) = inl e
+    in_left l (x ∷ xs) ys (inr h) = inr (in_left l xs ys h)
+
+    in_right : (l : ℕ) (xs ys : List ℕ) → IsIn l ys → IsIn l (xs ++ ys)
+    in_right l [] ys h = h
+    in_right l (x ∷ xs) ys h = inr (in_right l xs ys h)
 
     both_sides : (b : Bool) (e : TypedTree) (n : ℕ) (t : Temps) (xs ys : Nodes) (r q : Run Ending) → Matches cells Fine (IsTested cells pointed Fine fine limit tests b (condition n e).operand (condition n e).next n t) (value tree_at b e) (nodes code_at b (condition n e).nodes t) →
         ((u : Temps) → Does b r xs u) → Does b q ys t →
         Does b (and_then (value tree_at b e) (λ v. either (holds v) r q)) (more (Block (more (Block (join (condition n e).nodes (more (Do (action.Unless (condition n e).operand 0)) (join xs (only (action.Goto 1)))))) ys)) none) t
-    both_sides b e n t xs ys r q h h' h'' = block_does b (and_then (value tree_at b e) (λ v. either (holds v) r q)) _ t
+    both_sides b e n t xs ys r q h h' h'' = block_does b (and_then (value tree_at b e) (λ v. either (holds v) r q)) (more (Block (join (condition n e).nodes (more (Do (action.Unless (condition n e).operand 0)) (join xs (only (action.Goto 1)))))) ys) t
         (subst (λ (z : Run Way). Matches cells Fine InBlock (and_then (value tree_at b e) (λ v. either (holds v) r q)) z) (sym whole) (then_matches cells Fine h (λ v w p. sides_do b (condition n e).operand (condition n e).next n t xs ys r q h' h'' v w p)))
       where
         rest : Nodes
@@ -318,7 +340,9 @@ module _ (cells : Layout) (pointed : ℕ → List CellType) (Fine : End → Type
 
         whole : nodes code_at b (more (Block (join (condition n e).nodes (more (Do (action.Unless (condition n e).operand 0)) (join xs (only (action.Goto 1)))))) ys) t
             ≡ and_then (nodes code_at b (condition n e).nodes t) (λ w. and_then (and_then (follow (nodes code_at b (more (Do (action.Unless (condition n e).operand 0)) (join xs (only (action.Goto 1))))) w) (λ w. done (leave t w))) (follow (nodes code_at b ys)))
-        whole = ?
+        whole =
+            ap {B = Run Way} (λ (z : Run Way). and_then (and_then z (λ w. done (leave t w))) (follow (nodes code_at b ys))) (join_is code_at b (condition n e).nodes (more (Do (action.Unless (condition n e).operand 0)) (join xs (only (action.Goto 1)))) t)
+            ∙ (λ i s. assoc_twice (nodes code_at b (condition n e).nodes t s) (follow (nodes code_at b (more (Do (action.Unless (condition n e).operand 0)) (join xs (only (action.Goto 1)))))) (λ w. done (leave t w)) (follow (nodes code_at b ys)) i)
 
     mutual
       pub statement_does : (s : CheckedTree) → IsTypedStatement cells result s → LoopsAreFine (loops_in s) → (b : Bool) (scope : List ℕ) (n : ℕ) (t : Temps) → Does b (act tree_at b s) (statement cells scope n s).nodes t
@@ -332,14 +356,24 @@ module _ (cells : Layout) (pointed : ℕ → List CellType) (Fine : End → Type
       statement_does (tree.Evaluate e) h ok b scope n t =
           join_matches code_at b cells Fine (expression n e).nodes none t (value tree_at b e) _ (expression_gives cells pointed Fine fine limit tests b calls true e h n t) (evaluated b (type_of e) (expression n e).operand (expression n e).next n t)
       statement_does (tree.If e s) (h, is, k) ok b scope n t =
-          block_does b (act tree_at b (tree.If e s)) _ t
+          block_does b (act tree_at b (tree.If e s)) (join (condition n e).nodes (more (Do (action.Unless (condition n e).operand 0)) (statement cells scope (condition n e).next s).nodes)) t
           (join_matches code_at b cells Fine (condition n e).nodes (more (Do (action.Unless (condition n e).operand 0)) (statement cells scope (condition n e).next s).nodes) t (value tree_at b e) _ (tested_by cells pointed Fine fine limit tests b calls true e n t is (expression_gives cells pointed Fine fine limit tests b calls true e h n t))
           (one_side b (condition n e).operand (condition n e).next n t (statement cells scope (condition n e).next s).nodes (act tree_at b s) (λ u. statement_does s k ok b scope (condition n e).next u)))
-      statement_does (tree.IfElse e s z) (h, is, k, k') ok b scope n t = ?
-      statement_does (tree.While l named e s) (h, is, k) ok b scope n t = ?
+      statement_does (tree.IfElse e s z) (h, is, k, k') ok b scope n t =
+          let m = (condition n e).next in
+          let xs = statement cells scope m s in
+          both_sides b e n t xs.nodes (statement cells scope xs.next z).nodes (act tree_at b s) (act tree_at b z) (tested_by cells pointed Fine fine limit tests b calls true e n t is (expression_gives cells pointed Fine fine limit tests b calls true e h n t))
+          (λ u. statement_does s k (λ l p. ok l (in_left l (loops_in s) (loops_in z) p)) b scope m u) (statement_does z k' (λ l p. ok l (in_right l (loops_in s) (loops_in z) p)) b scope xs.next t)
+      statement_does (tree.While l named e s) (h, is, k) ok b scope n t =
+          let m = (condition n e).next in
+          loop_does l (ok l (inl refl)) back (λ c. while_turn (value tree_at c e) (act tree_at c s)) (join (condition n e).nodes (more (Do (action.Unless (condition n e).operand 0)) (statement cells scope m s).nodes)) t
+          (λ c. turn_at c e n t (statement cells scope m s).nodes (act tree_at c s) (tested_by cells pointed Fine fine limit tests c calls true e n t is (expression_gives cells pointed Fine fine limit tests c calls true e h n t)) (λ u. statement_does s k (λ l p. ok l (inr p)) c scope m u)) b
       statement_does (tree.Return e) (h, is) ok b scope n t =
           join_matches code_at b cells Fine (expression n e).nodes (join (deads scope) (only action.End)) t (value tree_at b e) _ (expression_gives cells pointed Fine fine limit tests b calls true e h n t) (returned_by b scope (type_of e) (expression n e).operand (expression n e).next n t)
 
       pub statements_do : (all : CheckedTrees) → AreTyped cells result all → LoopsAreFine (all_loops_in all) → (b : Bool) (scope : List ℕ) (n : ℕ) (t : Temps) → Does b (act_all tree_at b None all) (statements cells scope n all).nodes t
       statements_do tree.none h ok b scope n t = done_matches cells Fine Next (On t) tt
-      statements_do (tree.more s rest) (h, k) ok b scope n t = ?
+      statements_do (tree.more s rest) (h, k) ok b scope n t =
+          let m = (statement cells scope n s).next in
+          join_matches code_at b cells Fine (statement cells scope n s).nodes (statements cells (scopes.behind scope s) m rest).nodes t (act tree_at b s) _ (statement_does s h (λ l p. ok l (in_left l (loops_in s) (all_loops_in rest) p)) b scope n t)
+          (rest_does b (λ from. act_all tree_at b from rest) (statements cells (scopes.behind scope s) m rest).nodes (λ u. statements_do rest k (λ l p. ok l (in_right l (loops_in s) (all_loops_in rest) p)) b (scopes.behind scope s) m u))
