@@ -5,3 +5,4 @@ pub mod Computing
 pub mod Converted
 pub mod Expressions
 pub mod Statements
+pub mod Programs

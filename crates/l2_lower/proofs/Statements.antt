@@ -84,10 +84,10 @@ abbrev pub IsLeft : Ending → Unit {0} → ℕ → Type 0
 IsLeft e u n = (e ≡ Next) × (n ≡ 0)
 
 module _ (cells : Layout) (pointed : ℕ → List CellType) (Fine : End → Type 0) (fine : (o : Outcome) → Fine (Over o)) (limit : Limit) (tests : Tests) (calls : Calls) where
-  abbrev code_at : machine.Setting
+  abbrev pub code_at : machine.Setting
   code_at = code_here cells pointed Fine fine limit tests true
 
-  abbrev tree_at : Setting
+  abbrev pub tree_at : Setting
   tree_at = tree_here cells pointed Fine fine limit tests true calls true
 
   module _ (b : Bool) where
@@ -134,7 +134,7 @@ module _ (cells : Layout) (pointed : ℕ → List CellType) (Fine : End → Type
         (write_does cells pointed Fine fine limit tests b Pointer o f (Constant Invalid) t Invalid (from_get (cells o) f Pointer types e) (fits_seam cells (cells o) f Pointer types Invalid e tt) refl)
         (λ u. filled_does o (suc f) n types t (from_next (cells o) f Pointer types e))
 
-    declared_does : (o n : ℕ) (t : Temps) → Matches cells Fine GoesOn (declare tree_at o) (nodes code_at b (declaration cells n o).nodes t)
+    pub declared_does : (o n : ℕ) (t : Temps) → Matches cells Fine GoesOn (declare tree_at o) (nodes code_at b (declaration cells n o).nodes t)
     declared_does o n t = first_does (Do (action.Live o)) (filled n o 0 (cells o)).nodes t (enliven o) (λ u. fill o 0 (cells o)) (live_does o t) (λ u. filled_does o 0 n (cells o) t refl)
 
     -- ---- ends
