@@ -1,7 +1,11 @@
 -- Runs that do the same.
-use Rattle.std.specs.Prelude.{◌≡◌}
+use Rattle.std.specs.Prelude.{◌≡◌, ℕ, ℤ, List}
 use Rattle.l2_runs.specs.declared.outcome.Outcome.TheVariants.{Ended, Stopped, Broken, OutOfChoices, OutOfTurns}
 use Rattle.l2_runs.specs.Runs.{State, End, Over, Fallen, Result, Go, Halt}
+use Rattle.l2_runs.specs.Loops.{Limit, Tests}
+use Rattle.l2_meaning.specs.Execution.{Execution, report}
+use Rattle.l2_code.specs.Trees.{CodeTree}
+use Rattle.l2_code.specs.Modes.{start, run_code}
 
 -- how a run is over, where a program that is left at its end has ended
 abbrev pub end_of : {A : Type 0} → Result A → End
@@ -31,3 +35,7 @@ AreAlike (Fallen l row) s t = s ≡ t
 pub record Agree {A B : Type 0} (x : Result A) (y : Result B) : Type 0 where
   pub end : end_of x ≡ end_of y
   pub states : AreAlike (end_of x) (state_of x) (state_of y)
+
+-- the execution of a code under a limit and tests on these choices and turns
+abbrev pub exec_code : CodeTree → Limit → Tests → List ℤ → ℕ → Execution
+exec_code c limit tests choices turns = report choices turns (run_code c limit tests (start c choices turns))
