@@ -7,3 +7,4 @@ pub mod Expressions
 pub mod Statements
 pub mod Programs
 pub mod Executions
+pub mod Outputs

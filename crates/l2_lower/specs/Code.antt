@@ -57,7 +57,3 @@ code p = record {
   temps = (main_code (cells_of p) (main_among p.names p.functions)).next - 1;
   body = (main_code (cells_of p) (main_among p.names p.functions)).nodes;
 }
-
--- how many instructions code may have
-abbrev pub most_instructions : ℕ
-most_instructions = 65536

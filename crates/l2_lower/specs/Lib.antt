@@ -1,4 +1,5 @@
-pub mod Alike
 pub mod Emitting
 pub mod Statements
 pub mod Code
+pub mod Output
+pub mod Alike

@@ -2,4 +2,8 @@
 //! The definitions stand in `specs/`.
 #![tactic(auto)]
 
+mod emitter;
+mod error;
 pub mod laws;
+
+pub use error::LowerError;

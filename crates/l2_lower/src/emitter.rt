@@ -1,0 +1,118 @@
+// What is emitted.
+ghost use Rattle.std.specs.Prelude.{◌≡◌, ◌≤◌, suc, IfOk, IfErr};
+ghost use Rattle.l2_code.specs.declared.action.Operand.TheVariants.{Temp};
+ghost use Rattle.l2_code.specs.declared.action.Action.TheVariants as action;
+ghost use Rattle.l2_code.specs.Trees.{none, more, tree_of};
+ghost use Rattle.l2_code.specs.Sizes.{node_count};
+ghost use Rattle.l2_lower.specs.Emitting.{only};
+ghost use Rattle.l2_lower.specs.Output.{output, Emits, Anything};
+
+use crate::error::LowerError;
+use l2_code::{Item, Operand, emit};
+use l2_runs::CellType;
+use std::alloc::Global;
+use std::marker::Model;
+
+/// How many instructions code may have.
+const MOST: u32 = 65536;
+
+/// The number of the temporary that comes next, and how many instructions there are in all.
+#[derive(Drop)]
+pub struct Counts {
+    next: u32,
+    count: u32,
+}
+
+impl Model for Counts {
+    ghost use Rattle.std.specs.Prelude.{◌≤◌, ◌+◌};
+    ghost use Rattle.l2_lower.specs.Output as output;
+
+    ghost Value = { output.Counts };
+
+    ghost view = { λ m. record { next = m.next; count = m.count } };
+
+    ghost invariant = { λ m. (m.next ≤ m.count + 1) × (m.count ≤ 65536) };
+}
+
+impl Counts {
+    pub fn new() -> Counts
+        ensures { result ≡ record { next = 1; count = 0 } }
+    {
+        Counts { next: 1, count: 0 }
+    }
+
+    /// The number of the temporary that comes next.
+    pub fn next(&self) -> u32
+        ensures { result ≡ self.now.next }
+    {
+        self.next
+    }
+
+    /// One instruction more.
+    fn rise(&mut self) -> Result<(), LowerError>
+        ensures ok { IfOk result (λ u. self.new ≡ record self.old { count = suc self.old.count }) }
+        ensures err { IfErr result (λ e. 65536 ≤ self.old.count) }
+    {
+        if self.count < MOST {
+            self.count += 1;
+            Ok(())
+        } else {
+            Err(LowerError::TooLarge)
+        }
+    }
+
+    /// One instruction more, whose result is the next temporary.
+    fn take(&mut self) -> Result<u32, LowerError>
+        ensures ok { IfOk result (λ n. (n ≡ self.old.next) × (self.new ≡ record { next = suc self.old.next; count = suc self.old.count })) }
+        ensures err { IfErr result (λ e. 65536 ≤ self.old.count) }
+    {
+        self.rise()?;
+        let temp = self.next;
+        self.next = temp + 1;
+        Ok(temp)
+    }
+}
+
+/// An instruction more.
+#[tactic(auto, using(crate::proofs::Outputs::outputs))]
+fn push(out: &mut Vec<Item>, at: &mut Counts, item: Item) -> Result<(), LowerError>
+    requires { node_count (tree_of item) ≡ 1 }
+    ensures { Emits (more (tree_of item) none) at.old.next Anything (output out.old.items at.old) (output out.new.items at.new) result }
+{
+    at.rise()?;
+    out.push(item)?;
+    Ok(())
+}
+
+/// `write TYPE A B`.
+#[tactic(auto, using(crate::proofs::Outputs::outputs))]
+pub fn write(
+    alloc: Global,
+    out: &mut Vec<Item>,
+    at: &mut Counts,
+    ty: CellType,
+    to: Operand,
+    value: Operand,
+) -> Result<(), LowerError>
+    ensures { Emits (only (action.Write ty to value)) at.old.next Anything (output out.old.items at.old) (output out.new.items at.new) result }
+{
+    let item = emit::write(alloc, ty, to, value)?;
+    push(out, at, item)
+}
+
+/// `tN = read TYPE A`.
+#[tactic(auto, using(crate::proofs::Outputs::outputs))]
+pub fn read(
+    alloc: Global,
+    out: &mut Vec<Item>,
+    at: &mut Counts,
+    ty: CellType,
+    from: Operand,
+) -> Result<Operand, LowerError>
+    ensures { Emits (only (action.Read at.old.next ty from)) (suc at.old.next) (λ a. a ≡ Temp at.old.next) (output out.old.items at.old) (output out.new.items at.new) result }
+{
+    let temp = at.take()?;
+    let item = emit::read(alloc, temp, ty, from)?;
+    out.push(item)?;
+    Ok(Operand::Temp(temp))
+}
