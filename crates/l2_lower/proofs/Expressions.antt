@@ -42,7 +42,8 @@ use Rattle.l2_code.specs.Trees.{Node, Do, Nodes, none, more, join}
 use Rattle.l2_code.specs.Values.{Types, Temps, with_temp, operand_value, operate, is_true, same_type, is_type, cell_of}
 use Rattle.l2_code.specs.Machine.{Way, On, Out, follow, node, nodes}
 use Rattle.l2_code.specs.Machine as machine
-use Rattle.l2_lower.specs.Emitting.{only, cell, Emitted, behind, then_nodes, nothing, result, checked, computed, zero_number, overflow_checked, unary_code, binary_code, conversion, truth_code, expression, condition}
+use Rattle.l2_code.proofs.Items.{join-join}
+use Rattle.l2_lower.specs.Emitting.{only, cell, Emitted, behind, nothing, result, checked, computed, zero_number, overflow_check, after, unary_code, binary_code, conversion, truth_code, expression, condition}
 use Rattle.l2_lower.proofs.Converted.{same_types, same_type_self, convert_same}
 use Rattle.l2_lower.proofs.Matches.{AnyTwo, Match, Matches, then_matches, weaker_matches, done_matches, demand_match, choose_matches, told_matches}
 use Rattle.l2_lower.proofs.Joins.{join_is, join_matches, only_is, then_done}
@@ -135,18 +136,19 @@ module _ (cells : Layout) (pointed : ℕ → List CellType) (Fine : End → Type
 
   overflow_gives : (types : List CellType) (c : ℕ) (op : Op) (ty : Ty) (p q : Operand) (f : ℕ → Emitted) (m : ℕ) (u : Temps) (x y : ℤ) (rest : Run Value) → operand_value u p ≡ Number x → operand_value u q ≡ Number y →
       ((k : ℕ) (w : Temps) → m ≤ k → Stay m u w → Gives types (f k) k w rest) →
-      Gives types (overflow_checked m c op ty p q f) m u (and_then (check b c (not (overflows op ty x y))) (λ z. rest))
+      Gives types (after (overflow_check m c op ty p q) f) m u (and_then (check b c (not (overflows op ty x y))) (λ z. rest))
   overflow_gives types zero op ty p q f m u x y rest e d next = record { by = λ s k. (next m u (omega arith) (λ i l. refl)).by s k }
   overflow_gives types (suc c) op ty p q f m u x y rest e d next = go (overflow_computes code_here b m op ty p q u x y e d) where
     go : Computes code_here b m (computed m (Passes (test.Overflow op ty p q))) u (Number (truth (not (overflows op ty x y)))) →
-        Gives types (overflow_checked m (suc c) op ty p q f) m u (and_then (check b (suc c) (not (overflows op ty x y))) (λ z. rest))
+        Gives types (after (overflow_check m (suc c) op ty p q) f) m u (and_then (check b (suc c) (not (overflows op ty x y))) (λ z. rest))
     go h =
         let test = computed m (Passes (test.Overflow op ty p q)) in
         let last = f test.next in
-        subst (λ (r : Run Way). Matches cells Fine (IsGiven cells types last.operand last.next m u) (and_then (check b (suc c) (not (overflows op ty x y))) (λ z. rest)) r)
+        subst (λ (xs : Nodes). Matches cells Fine (IsGiven cells types last.operand last.next m u) (and_then (check b (suc c) (not (overflows op ty x y))) (λ z. rest)) (nodes code_here b xs u)) (sym (join-join test.nodes (only (Check (suc c) test.operand)) last.nodes))
+        (subst (λ (r : Run Way). Matches cells Fine (IsGiven cells types last.operand last.next m u) (and_then (check b (suc c) (not (overflows op ty x y))) (λ z. rest)) r)
         (sym (computes_then test m u _ (more (Do (Check (suc c) test.operand)) last.nodes) h))
         (check_then (suc c) (not (overflows op ty x y)) test.operand last.nodes h.after rest (ap is_true h.value ∙ truth_is (not (overflows op ty x y)))
-        (weaker_matches cells Fine (next test.next h.after h.grows h.stay) (given_later cells types last.operand last.next m test.next u h.after h.grows h.stay)))
+        (weaker_matches cells Fine (next test.next h.after h.grows h.stay) (given_later cells types last.operand last.next m test.next u h.after h.grows h.stay))))
 
   number_gives : (ty : Ty) (x : Emitted) (n : ℕ) (t : Temps) (z : ℤ) → Computes code_here b n x t (Number z) → IsValue ty z → Gives (Integer ty ∷ []) x n t (done (number z))
   number_gives ty x n t z h k = computes_match (Integer ty) x n t (Number z) h k

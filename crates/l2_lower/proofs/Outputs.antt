@@ -11,3 +11,5 @@ instructions-join none ys = omega arith
 instructions-join (more x rest) ys = let h = instructions-join rest ys in omega arith
 
 pub ruleset outputs = (instructions-join, items_of-join, join-none, join-join)
+
+pub ruleset folds = (instructions-join, items_of-join, join-none, join-join)

@@ -31,7 +31,7 @@ use Rattle.l2_code.specs.Machine.{Way, On, Out, follow, leave, close, code_loop,
 use Rattle.l2_code.specs.Machine as machine
 use Rattle.l2_lower.specs.Alike.{AreUsedAlike, AreAlike}
 use Rattle.l2_lower.specs.Emitting.{only, cell, Emitted, expression, condition}
-use Rattle.l2_lower.specs.Statements.{Part, filled, declaration, initialised, deads, statement, statements}
+use Rattle.l2_lower.specs.Statements.{filled, declaration, initialised, deads, statement, statements}
 use Rattle.l2_lower.proofs.Matches.{AnyTwo, Match, Matches, then_match, then_matches, weaker_matches, done_matches, choose_matches, enliven_matches, bury_matches, told_matches, alone_matches}
 use Rattle.l2_lower.proofs.MatchLoops.{AreFine, StartsAlike, Turned, Left, loop_match}
 use Rattle.l2_lower.proofs.Joins.{join_is, join_matches, one_is, only_is, assoc_twice}

@@ -15,8 +15,8 @@ use Rattle.l2_code.specs.declared.code.CodeCheck.{CodeCheck}
 use Rattle.l2_code.specs.declared.code.CodeLoop.{CodeLoop}
 use Rattle.l2_code.specs.declared.action.Action.TheVariants.{End}
 use Rattle.l2_code.specs.Trees.{none, join, CodeTree}
-use Rattle.l2_lower.specs.Emitting.{only}
-use Rattle.l2_lower.specs.Statements.{Part, part, followed, declaration, deads, statement}
+use Rattle.l2_lower.specs.Emitting.{only, Part, part}
+use Rattle.l2_lower.specs.Statements.{followed, declaration, deads, statement}
 
 -- ---- the lists
 

@@ -47,9 +47,17 @@ behind x f = record {
   next = (f x.next x.operand).next;
 }
 
--- items before what is emitted
-abbrev pub then_nodes : Nodes → Emitted → Emitted
-then_nodes xs x = record { nodes = join xs x.nodes; operand = x.operand; next = x.next }
+-- items, and the number of the temporary that comes next
+pub record Part : Type 0 where
+  pub nodes : Nodes
+  pub next : ℕ
+
+abbrev pub part : ℕ → Nodes → Part
+part n xs = record { nodes = xs; next = n }
+
+-- items, and then what is emitted behind them
+abbrev pub after : Part → (ℕ → Emitted) → Emitted
+after p f = record { nodes = join p.nodes (f p.next).nodes; operand = (f p.next).operand; next = (f p.next).next }
 
 abbrev pub nothing : ℕ → Operand → Emitted
 nothing n a = record { nodes = none; operand = a; next = n }
@@ -85,10 +93,13 @@ operands_of (Move by a b) = a ∷ b ∷ []
 operands_of (Pointers op a b) = a ∷ b ∷ []
 operands_of (Passes t) = test_operands t
 
+abbrev pub is_constant : Operand → Bool
+is_constant (Constant v) = true
+is_constant (Temp n) = false
+
 abbrev pub are_constant : List Operand → Bool
 are_constant [] = true
-are_constant (Constant v ∷ rest) = are_constant rest
-are_constant (Temp n ∷ rest) = false
+are_constant (a ∷ rest) = is_constant a && are_constant rest
 
 -- a value that is taken as 0 where its check breaks
 abbrev pub or_zero : Option CellValue → CellValue
@@ -108,19 +119,20 @@ abbrev pub zero_number : Operand
 zero_number = Constant (Number (pos 0))
 
 -- the check that the exact result is a value of the type, where there is one
-abbrev pub overflow_checked : ℕ → ℕ → Op → Ty → Operand → Operand → (ℕ → Emitted) → Emitted
-overflow_checked n zero op ty a b f = f n
-overflow_checked n (suc c) op ty a b f = behind (computed n (Passes (test.Overflow op ty a b))) (λ m ok. then_nodes (checked (suc c) ok) (f m))
+abbrev pub overflow_check : ℕ → ℕ → Op → Ty → Operand → Operand → Part
+overflow_check n zero op ty a b = part n none
+overflow_check n (suc c) op ty a b =
+    part (computed n (Passes (test.Overflow op ty a b))).next (join (computed n (Passes (test.Overflow op ty a b))).nodes (checked (suc c) (computed n (Passes (test.Overflow op ty a b))).operand))
 
 abbrev pub unary_code : ℕ → UnaryOperator → Ty → ℕ → Operand → Emitted
-unary_code n Negate ty c a = overflow_checked n c arithmetic.Sub ty zero_number a (λ m. computed m (Numbers operator.Sub ty zero_number a))
+unary_code n Negate ty c a = after (overflow_check n c arithmetic.Sub ty zero_number a) (λ m. computed m (Numbers operator.Sub ty zero_number a))
 unary_code n Not ty c a = computed n (Numbers operator.Eq ty a zero_number)
 
 -- `>` and `>=` are `lt` and `le` with operands exchanged
 abbrev pub binary_code : ℕ → BinaryOperator → Ty → ℕ → Operand → Operand → Emitted
-binary_code n binary.Multiply ty c a b = overflow_checked n c arithmetic.Mul ty a b (λ m. computed m (Numbers operator.Mul ty a b))
-binary_code n binary.Add ty c a b = overflow_checked n c arithmetic.Add ty a b (λ m. computed m (Numbers operator.Add ty a b))
-binary_code n binary.Subtract ty c a b = overflow_checked n c arithmetic.Sub ty a b (λ m. computed m (Numbers operator.Sub ty a b))
+binary_code n binary.Multiply ty c a b = after (overflow_check n c arithmetic.Mul ty a b) (λ m. computed m (Numbers operator.Mul ty a b))
+binary_code n binary.Add ty c a b = after (overflow_check n c arithmetic.Add ty a b) (λ m. computed m (Numbers operator.Add ty a b))
+binary_code n binary.Subtract ty c a b = after (overflow_check n c arithmetic.Sub ty a b) (λ m. computed m (Numbers operator.Sub ty a b))
 binary_code n binary.Less ty c a b = computed n (Numbers operator.Lt ty a b)
 binary_code n binary.LessEqual ty c a b = computed n (Numbers operator.Le ty a b)
 binary_code n binary.Greater ty c a b = computed n (Numbers operator.Lt ty b a)

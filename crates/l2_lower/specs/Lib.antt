@@ -3,3 +3,4 @@ pub mod Statements
 pub mod Code
 pub mod Output
 pub mod Alike
+pub mod Operands

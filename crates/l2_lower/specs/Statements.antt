@@ -13,12 +13,7 @@ use Rattle.l2_code.specs.declared.action.Operand.{Operand}
 use Rattle.l2_code.specs.declared.action.Operand.TheVariants.{Constant, Temp}
 use Rattle.l2_code.specs.declared.action.Action.TheVariants.{Write, Choice, Unless, Goto, Live, Dead, End}
 use Rattle.l2_code.specs.Trees.{Do, Block, Loop, Nodes, none, more, join}
-use Rattle.l2_lower.specs.Emitting.{only, Emitted, cell, expression, condition}
-
--- items, and the number of the temporary that comes next
-pub record Part : Type 0 where
-  pub nodes : Nodes
-  pub next : ℕ
+use Rattle.l2_lower.specs.Emitting.{only, Emitted, Part, part, cell, expression, condition}
 
 abbrev pub behind : Nodes → Part → Part
 behind xs p = record { nodes = join xs p.nodes; next = p.next }
@@ -29,9 +24,6 @@ using x f = behind x.nodes (f x.next x.operand)
 
 abbrev pub followed : Part → (ℕ → Part) → Part
 followed p f = behind p.nodes (f p.next)
-
-abbrev pub part : ℕ → Nodes → Part
-part n xs = record { nodes = xs; next = n }
 
 -- one item of these
 abbrev pub as_block : Part → Part

@@ -5,5 +5,6 @@
 mod emitter;
 mod error;
 pub mod laws;
+mod operands;
 
 pub use error::LowerError;
