@@ -1,5 +1,18 @@
 -- What is emitted one after another, as one.
-use Rattle.std.proofs.Common.{◌≡◌, ℕ, ◌+◌, List, [], ◌∷◌, ◌++◌, refl, ap, ◌∙◌, arith}
+use Rattle.std.proofs.Common.{◌≡◌, ℕ, ◌+◌, ℤ, pos, not, List, [], ◌∷◌, ◌++◌, Option, Some, None, refl, sym, ap, subst, ◌∙◌, arith}
+use Rattle.std.specs.Option.{unwrap_or}
+use Rattle.l2_bits.specs.declared.types.Ty.{Ty}
+use Rattle.l2_bits.specs.declared.operators.Op.{Op}
+use Rattle.l2_bits.specs.Operators.{convert, overflows}
+use Rattle.l2_runs.specs.declared.cells.CellValue.TheVariants.{Number}
+use Rattle.l2_runs.specs.Operators.{truth}
+use Rattle.l2_code.specs.declared.action.Operator.{Operator}
+use Rattle.l2_code.specs.declared.action.Operand.{Operand}
+use Rattle.l2_code.specs.declared.action.Operand.TheVariants.{Constant, Temp}
+use Rattle.l2_code.specs.declared.action.Test.TheVariants as test
+use Rattle.l2_code.specs.declared.action.Computation.TheVariants.{Numbers, Convert, Passes}
+use Rattle.l2_code.specs.Values.{operate, as_number}
+use Rattle.l2_lower.specs.Emitting.{Emitted, or_zero, computed}
 use Rattle.l2_code.specs.declared.code.Item.{Item}
 use Rattle.l2_code.specs.Trees.{Node, Nodes, none, more, join, tree_of, items_of}
 use Rattle.l2_code.specs.Sizes.{node_count, instructions}
@@ -12,4 +25,32 @@ instructions-join (more x rest) ys = let h = instructions-join rest ys in omega 
 
 pub ruleset outputs = (instructions-join, items_of-join, join-none, join-join)
 
-pub ruleset folds = (instructions-join, items_of-join, join-none, join-join)
+-- ---- constants
+
+with_none : (out : Output) → out ≡ with_nodes out none out.next
+with_none out = λ i. record { nodes = sym (join-none out.nodes) i; next = out.next; count = plus_none i } where
+  plus_none : out.count ≡ out.count + 0
+  plus_none = omega arith
+
+-- what is emitted where nothing but an operand is
+abbrev pub Folds : Emitted → Operand → Output → Type 0
+Folds x d out = (d ≡ x.operand) × (out ≡ with_nodes out x.nodes x.next)
+
+number_or : (o : Option ℤ) → Number (unwrap_or o (pos 0)) ≡ or_zero (as_number o)
+number_or None = refl
+number_or (Some z) = refl
+
+pub numbers_fold : (op : Operator) (ty : Ty) (a b : Operand) (x y z : ℤ) (out : Output) → a ≡ Constant (Number x) → b ≡ Constant (Number y) → z ≡ unwrap_or (operate op ty x y) (pos 0) → Folds (computed out.next (Numbers op ty a b)) (Constant (Number z)) out
+numbers_fold op ty a b x y z out e f h =
+    subst (λ p. Folds (computed out.next (Numbers op ty p b)) (Constant (Number z)) out) (sym e)
+    (subst (λ q. Folds (computed out.next (Numbers op ty (Constant (Number x)) q)) (Constant (Number z)) out) (sym f)
+    (ap Constant (ap Number h ∙ number_or (operate op ty x y)), with_none out))
+
+pub convert_folds : (ty : Ty) (a : Operand) (x z : ℤ) (out : Output) → a ≡ Constant (Number x) → z ≡ convert ty x → Folds (computed out.next (Convert ty a)) (Constant (Number z)) out
+convert_folds ty a x z out e h = subst (λ p. Folds (computed out.next (Convert ty p)) (Constant (Number z)) out) (sym e) (ap Constant (ap Number h), with_none out)
+
+pub overflow_folds : (op : Op) (ty : Ty) (a b : Operand) (x y z : ℤ) (out : Output) → a ≡ Constant (Number x) → b ≡ Constant (Number y) → z ≡ truth (not (overflows op ty x y)) → Folds (computed out.next (Passes (test.Overflow op ty a b))) (Constant (Number z)) out
+overflow_folds op ty a b x y z out e f h =
+    subst (λ p. Folds (computed out.next (Passes (test.Overflow op ty p b))) (Constant (Number z)) out) (sym e)
+    (subst (λ q. Folds (computed out.next (Passes (test.Overflow op ty (Constant (Number x)) q))) (Constant (Number z)) out) (sym f)
+    (ap Constant (ap Number h), with_none out))

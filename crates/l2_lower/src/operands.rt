@@ -1,15 +1,18 @@
 // Operands that are computed: by an instruction, or at once where they are constants.
 ghost use Rattle.std.specs.Option.{unwrap_or};
-ghost use Rattle.std.specs.Prelude.{◌≡◌, pos, true, false, ◌&&◌, [], ◌∷◌, None, IfSome};
+ghost use Rattle.std.specs.Prelude.{◌≡◌, ◌≢◌, pos, not, false, ◌&&◌, [], ◌∷◌, None, IfSome};
+ghost use Rattle.l2_bits.specs.declared.operators.Op.TheVariants as op_kind;
+ghost use Rattle.l2_bits.specs.Operators.{IsRightOperand, overflows};
 ghost use Rattle.l2_bits.specs.Values.{IsValue};
+ghost use Rattle.l2_runs.specs.Operators.{truth};
 ghost use Rattle.l2_runs.specs.declared.cells.CellValue.TheVariants.{Number};
 ghost use Rattle.l2_code.specs.declared.action.Operand.TheVariants.{Constant};
 ghost use Rattle.l2_code.specs.declared.action.Computation.TheVariants as computation;
 ghost use Rattle.l2_code.specs.declared.action.Test.TheVariants as test;
-ghost use Rattle.l2_code.specs.Values.{operate, on_numbers};
-ghost use Rattle.l2_lower.specs.Emitting.{is_constant, are_constant, or_zero, computed};
+ghost use Rattle.l2_code.specs.Values.{operate};
+ghost use Rattle.l2_lower.specs.Emitting.{is_constant, are_constant, computed, overflow_check};
 ghost use Rattle.l2_lower.specs.Operands.{IsOperandOf};
-ghost use Rattle.l2_lower.specs.Output.{output, Emits};
+ghost use Rattle.l2_lower.specs.Output.{output, Emits, Anything};
 
 use crate::emitter::{self, Counts};
 use crate::error::LowerError;
@@ -83,7 +86,7 @@ fn operate(op: Operator, ty: Ty, x: i128, y: i128) -> i128
 }
 
 /// An operator on two numbers.
-#[tactic(auto, using(crate::proofs::Outputs::folds))]
+#[tactic(auto, using(crate::proofs::Outputs::outputs))]
 pub fn numbers(
     alloc: Global,
     out: &mut Vec<Item>,
@@ -101,4 +104,76 @@ pub fn numbers(
         Some((x, y)) => Ok(Operand::Constant(CellValue::Number(operate(op, ty, x, y)))),
         None => emitter::operator(alloc, out, at, op, ty, a, b),
     }
+}
+
+/// A number as one of a type.
+pub fn converted(
+    alloc: Global,
+    out: &mut Vec<Item>,
+    at: &mut Counts,
+    from: Ty,
+    ty: Ty,
+    a: Operand,
+) -> Result<Operand, LowerError>
+    requires { IsOperandOf from a }
+    ensures { Emits (computed at.old.next (computation.Convert ty a)).nodes (computed at.old.next (computation.Convert ty a)).next (λ d. d ≡ (computed at.old.next (computation.Convert ty a)).operand) (output out.old.items at.old) (output out.new.items at.new) result }
+{
+    match number_of(from, a) {
+        Some(x) => Ok(Operand::Constant(CellValue::Number(convert(ty, x)))),
+        None => emitter::convert(alloc, out, at, ty, a),
+    }
+}
+
+/// Whether an operator doesn't overflow.
+fn overflow_passes(op: Op, ty: Ty, x: i128, y: i128) -> i128
+    requires left { IsValue ty x }
+    requires right { IsRightOperand op ty y }
+    ensures { result ≡ truth (not (overflows op ty x y)) }
+{
+    i128::from(!overflows(op, ty, x, y))
+}
+
+/// Whether an operator doesn't overflow, as an operand.
+pub fn passed(
+    alloc: Global,
+    out: &mut Vec<Item>,
+    at: &mut Counts,
+    op: Op,
+    ty: Ty,
+    a: Operand,
+    b: Operand,
+) -> Result<Operand, LowerError>
+    requires left { IsOperandOf ty a }
+    requires right { IsOperandOf ty b }
+    requires op { op ≢ op_kind.Shl }
+    ensures { Emits (computed at.old.next (computation.Passes (test.Overflow op ty a b))).nodes (computed at.old.next (computation.Passes (test.Overflow op ty a b))).next (λ d. d ≡ (computed at.old.next (computation.Passes (test.Overflow op ty a b))).operand) (output out.old.items at.old) (output out.new.items at.new) result }
+{
+    match numbers_of(ty, a, b) {
+        Some((x, y)) => Ok(Operand::Constant(CellValue::Number(overflow_passes(op, ty, x, y)))),
+        None => emitter::overflow(alloc, out, at, op, ty, a, b),
+    }
+}
+
+/// The check that an operator doesn't overflow, where there is one.
+#[tactic(auto, using(crate::proofs::Outputs::outputs))]
+pub fn overflow_check(
+    alloc: Global,
+    out: &mut Vec<Item>,
+    at: &mut Counts,
+    c: u32,
+    op: Op,
+    ty: Ty,
+    a: Operand,
+    b: Operand,
+) -> Result<(), LowerError>
+    requires left { IsOperandOf ty a }
+    requires right { IsOperandOf ty b }
+    requires op { op ≢ op_kind.Shl }
+    ensures { Emits (overflow_check at.old.next c op ty a b).nodes (overflow_check at.old.next c op ty a b).next Anything (output out.old.items at.old) (output out.new.items at.new) result }
+{
+    if c == 0 {
+        return Ok(());
+    }
+    let ok = passed(alloc, out, at, op, ty, a, b)?;
+    emitter::check(alloc, out, at, c, ok)
 }
