@@ -21,7 +21,7 @@ use Rattle.l2_lower.specs.Alike.{AreUsedAlike, AreAlike, Agree, end_of, state_of
 use Rattle.l2_lower.specs.Code.{code_object, code_objects, code}
 use Rattle.l2_lower.proofs.Matches.{AnyTwo, Match, Matches, same_alike}
 use Rattle.l2_lower.proofs.MatchLoops.{AreFine, StartsAlike}
-use Rattle.l2_lower.proofs.Programs.{run_agrees}
+use Rattle.l2_lower.proofs.ProgramRuns.{run_agrees}
 
 -- ---- the start
 

@@ -3,8 +3,9 @@ pub mod MatchLoops
 pub mod Joins
 pub mod Computing
 pub mod Converted
-pub mod Expressions
-pub mod Statements
-pub mod Programs
+pub mod ExpressionRuns
+pub mod StatementRuns
+pub mod ProgramRuns
 pub mod Executions
 pub mod Outputs
+pub mod Weights

@@ -12,6 +12,7 @@ use Rattle.l2_code.specs.declared.action.Operand.TheVariants.{Constant, Temp}
 use Rattle.l2_code.specs.declared.action.Test.TheVariants as test
 use Rattle.l2_code.specs.declared.action.Computation.TheVariants.{Numbers, Convert, Passes}
 use Rattle.l2_code.specs.Values.{operate, as_number}
+use Rattle.l2_meaning.proofs.Numbers.{zero_value}
 use Rattle.l2_lower.specs.Emitting.{Emitted, or_zero, computed}
 use Rattle.l2_code.specs.declared.code.Item.{Item}
 use Rattle.l2_code.specs.Trees.{Node, Nodes, none, more, join, tree_of, items_of}
@@ -54,3 +55,5 @@ overflow_folds op ty a b x y z out e f h =
     subst (λ p. Folds (computed out.next (Passes (test.Overflow op ty p b))) (Constant (Number z)) out) (sym e)
     (subst (λ q. Folds (computed out.next (Passes (test.Overflow op ty (Constant (Number x)) q))) (Constant (Number z)) out) (sym f)
     (ap Constant (ap Number h), with_none out))
+
+pub ruleset operators = (instructions-join, items_of-join, join-none, join-join, zero_value)

@@ -4,6 +4,7 @@
 
 mod emitter;
 mod error;
+mod expressions;
 pub mod laws;
 mod operands;
 

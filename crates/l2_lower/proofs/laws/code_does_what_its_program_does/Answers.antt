@@ -1,5 +1,5 @@
 use Rattle.std.proofs.Common.{ap}
-use Rattle.l2_lower.proofs.Programs.{program_types}
+use Rattle.l2_lower.proofs.ProgramRuns.{program_types}
 use Rattle.l2_lower.proofs.Executions.{start_same, run_law, exec_law}
 use Rattle.l2_lower.proofs.laws.code_does_what_its_program_does.Goals as goal
 

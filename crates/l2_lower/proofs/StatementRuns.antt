@@ -36,7 +36,7 @@ use Rattle.l2_lower.proofs.Matches.{AnyTwo, Match, Matches, then_match, then_mat
 use Rattle.l2_lower.proofs.MatchLoops.{AreFine, StartsAlike, Turned, Left, loop_match}
 use Rattle.l2_lower.proofs.Joins.{join_is, join_matches, one_is, only_is, assoc_twice}
 use Rattle.l2_lower.proofs.Computing.{with_temp_same}
-use Rattle.l2_lower.proofs.Expressions.{Holds, IsHeld, IsGiven, IsTruth, IsTested, code_here, tree_here, write_does, put_does, expression_gives, tested_by}
+use Rattle.l2_lower.proofs.ExpressionRuns.{Holds, IsHeld, IsGiven, IsTruth, IsTested, code_here, tree_here, write_does, put_does, expression_gives, tested_by}
 
 -- the cell at an offset
 from_get : {A : Type 0} (xs : List A) (f : ℕ) (t : A) (ts : List A) → from f xs ≡ t ∷ ts → slice_get xs f ≡ Some t

@@ -31,7 +31,7 @@ use Rattle.l2_lower.specs.Code.{code_object, code_objects, declarations, main_co
 use Rattle.l2_lower.proofs.Matches.{AnyTwo, Match, Matches, then_matches, done_matches, same_alike}
 use Rattle.l2_lower.proofs.MatchLoops.{AreFine, StartsAlike}
 use Rattle.l2_lower.proofs.Joins.{join_matches, assoc_at}
-use Rattle.l2_lower.proofs.Statements.{Leads, GoesOn, code_at, tree_at, declared_does, ends_do, statement_does}
+use Rattle.l2_lower.proofs.StatementRuns.{Leads, GoesOn, code_at, tree_at, declared_does, ends_do, statement_does}
 
 -- ---- the types of a program's code
 
