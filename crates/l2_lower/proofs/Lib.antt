@@ -9,3 +9,4 @@ pub mod ProgramRuns
 pub mod Executions
 pub mod Outputs
 pub mod Weights
+pub mod OperandTypes
