@@ -2,7 +2,7 @@
 use Rattle.std.proofs.Common.{◌≡◌, ℕ, zero, suc, ℤ, pos, Bool, true, false, not, List, [], ◌∷◌, Option, Some, None, refl, sym, ap, subst, ◌∙◌, arith}
 use Rattle.std.proofs.lemmas.Int.{ints}
 use Rattle.std.specs.Ordering.{int_eq}
-use Rattle.std.specs.Prelude.{if◌then◌else◌, ◌&&◌}
+use Rattle.std.specs.Prelude.{Result, Ok, Err, IfOk, if◌then◌else◌, ◌&&◌}
 use Rattle.l2_bits.specs.declared.types.Ty.{Ty}
 use Rattle.l2_bits.specs.Types.{int_type}
 use Rattle.l2_bits.specs.Values.{IsValue}
@@ -30,6 +30,9 @@ use Rattle.l2_code.specs.declared.action.Operand.TheVariants.{Constant, Temp}
 use Rattle.l2_code.specs.declared.action.Computation.TheVariants.{Numbers, Convert}
 use Rattle.l2_code.specs.Values.{operate, as_number, same_type}
 use Rattle.l2_lower.specs.Emitting.{Emitted, or_zero, computed, zero_number, nothing, unary_code, binary_code, conversion, expression}
+use Rattle.l2_code.specs.Trees.{Nodes}
+use Rattle.l2_lower.specs.declared.error.LowerError.{LowerError}
+use Rattle.l2_lower.specs.Output.{Output, Emits}
 use Rattle.l2_lower.specs.Operands.{IsOperandOf, OperandFits}
 use Rattle.l2_lower.proofs.Converted.{same_types}
 
@@ -117,3 +120,8 @@ expression_fits cells (tree.Assert c e) n h = tt
 
 pub number_operand : (cells : Layout) (e : TypedTree) (n : ℕ) (ty : Ty) → IsTyped cells e → type_of e ≡ Integer ty ∷ [] → IsOperandOf ty (expression n e).operand
 number_operand cells e n ty h is = integer_operand cells (type_of e) ty _ is (expression_fits cells e n h)
+
+-- an operand that is handed over as this one
+pub operand_given : (cells : Layout) (e : TypedTree) (n : ℕ) (ty : Ty) → IsTyped cells e → type_of e ≡ Integer ty ∷ [] → (r : Result Operand LowerError) (xs : Nodes) (k : ℕ) (old new : Output) → Emits xs k (λ d. d ≡ (expression n e).operand) old new r → IfOk r (λ d. IsOperandOf ty d)
+operand_given cells e n ty h is (Ok d) xs k old new (p, q) = subst (λ a. IsOperandOf ty a) (sym p) (number_operand cells e n ty h is)
+operand_given cells e n ty h is (Err f) xs k old new m = tt

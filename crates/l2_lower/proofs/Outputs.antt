@@ -1,6 +1,7 @@
 -- What is emitted one after another, as one.
 use Rattle.std.proofs.Common.{◌≡◌, ℕ, ◌+◌, ℤ, pos, not, List, [], ◌∷◌, ◌++◌, Option, Some, None, refl, sym, ap, subst, ◌∙◌, arith}
-use Rattle.std.specs.Prelude.{Result, Ok, Err}
+use Rattle.std.specs.Prelude.{Result, Ok, Err, ◌≢◌, ◌<◌}
+use Rattle.std.specs.Result.{IsErr, IsErrAnd}
 use Rattle.std.specs.Option.{unwrap_or}
 use Rattle.l2_bits.specs.declared.types.Ty.{Ty}
 use Rattle.l2_bits.specs.declared.operators.Op.{Op}
@@ -20,7 +21,8 @@ use Rattle.l2_code.specs.Trees.{Node, Nodes, none, more, join, tree_of, items_of
 use Rattle.l2_code.specs.Sizes.{node_count, instructions}
 use Rattle.l2_code.proofs.Items.{items_of-join, join-none, join-join}
 use Rattle.l2_lower.specs.declared.error.LowerError.{LowerError}
-use Rattle.l2_lower.specs.Output.{Output, with_nodes, Emits}
+use Rattle.l2_lower.specs.declared.error.LowerError.TheVariants.{NoMemory}
+use Rattle.l2_lower.specs.Output.{Output, with_nodes, Emits, most_instructions}
 
 pub instructions-join : (xs ys : Nodes) → instructions (join xs ys) ≡ instructions xs + instructions ys
 instructions-join none ys = omega arith
@@ -62,6 +64,7 @@ pub ruleset operators = (instructions-join, items_of-join, join-none, join-join,
 
 -- ---- failures
 
--- what is too much already is too much with what follows
-pub too_much : {A B : Type 0} {P : A → Type 0} {Q : B → Type 0} (xs ys : Nodes) (n k : ℕ) (old new new' : Output) (f : LowerError) (r : Result B LowerError) → r ≡ Err f → Emits xs n P old new (Err f) → Emits (join xs ys) k Q old new' r
-too_much {Q = Q} xs ys n k old new new' f r e h = subst (λ x. Emits (join xs ys) k Q old new' x) (sym e) (λ u. let l = h u in let j = instructions-join xs ys in omega arith)
+-- what is too much already is too much with what follows, whatever `?` hands on
+pub too_much : {B : Type 0} (Q : B → Type 0) (xs ys : Nodes) (k : ℕ) (old new : Output) (f : LowerError) (r : Result B LowerError) → IsErr r → IsErrAnd r (λ g. g ≡ f) → (f ≢ NoMemory → most_instructions < old.count + instructions xs) → Emits (join xs ys) k Q old new r
+too_much Q xs ys k old new f (Ok v) h e m = cc
+too_much Q xs ys k old new f (Err g) h e m = subst (λ x. x ≢ NoMemory → most_instructions < old.count + instructions (join xs ys)) (sym e) (λ u. let l = m u in let j = instructions-join xs ys in omega arith)

@@ -47,10 +47,10 @@ fn integer_of(ty: CellType) -> Ty
     requires { IsInteger (ty ∷ []) }
     ensures { ty ≡ Integer result }
 {
-    match ty {
-        CellType::Integer(ty) => ty,
-        CellType::Pointer => Ty::INT,
+    if let CellType::Integer(of) = ty {
+        return of;
     }
+    Ty::INT
 }
 
 fn unary_type(op: UnaryOperator, ty: Ty) -> Ty
