@@ -7,5 +7,6 @@ mod error;
 mod expressions;
 pub mod laws;
 mod operands;
+mod statements;
 
 pub use error::LowerError;
