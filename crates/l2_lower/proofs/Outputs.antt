@@ -15,7 +15,7 @@ use Rattle.l2_code.specs.declared.action.Test.TheVariants as test
 use Rattle.l2_code.specs.declared.action.Computation.TheVariants.{Numbers, Convert, Passes}
 use Rattle.l2_code.specs.Values.{operate, as_number}
 use Rattle.l2_meaning.proofs.Numbers.{zero_value}
-use Rattle.l2_lower.specs.Emitting.{Emitted, or_zero, computed}
+use Rattle.l2_lower.specs.Emitting.{Emitted, Part, part, or_zero, computed}
 use Rattle.l2_code.specs.declared.code.Item.{Item}
 use Rattle.l2_code.specs.Trees.{Node, Nodes, none, more, join, tree_of, items_of}
 use Rattle.l2_code.specs.Sizes.{node_count, instructions}
@@ -68,3 +68,29 @@ pub ruleset operators = (instructions-join, items_of-join, join-none, join-join,
 pub too_much : {B : Type 0} (Q : B → Type 0) (xs ys : Nodes) (k : ℕ) (old new : Output) (f : LowerError) (r : Result B LowerError) → IsErr r → IsErrAnd r (λ g. g ≡ f) → (f ≢ NoMemory → most_instructions < old.count + instructions xs) → Emits (join xs ys) k Q old new r
 too_much Q xs ys k old new f (Ok v) h e m = cc
 too_much Q xs ys k old new f (Err g) h e m = subst (λ x. x ≢ NoMemory → most_instructions < old.count + instructions (join xs ys)) (sym e) (λ u. let l = m u in let j = instructions-join xs ys in omega arith)
+
+-- ---- loops
+
+-- with these items more one has those items more than before
+abbrev pub Leaves : Output → Part → Output → Part → Type 0
+Leaves old whole now rest = with_nodes now rest.nodes rest.next ≡ with_nodes old whole.nodes whole.next
+
+with_twice : (out : Output) (xs ys : Nodes) (n k : ℕ) → with_nodes (with_nodes out xs n) ys k ≡ with_nodes out (join xs ys) k
+with_twice out xs ys n k = λ i. record { nodes = join-join out.nodes xs ys i; next = k; count = counted i } where
+  counted : out.count + instructions xs + instructions ys ≡ out.count + instructions (join xs ys)
+  counted = let j = instructions-join xs ys in omega arith
+
+-- the first of the rest was emitted
+pub leaves_less : (old : Output) (whole : Part) (now new : Output) (first rest : Nodes) (n k : ℕ) → new ≡ with_nodes now first n → Leaves old whole now (part k (join first rest)) → Leaves old whole new (part k rest)
+leaves_less old whole now new first rest n k e h = ap (λ o. with_nodes o rest k) e ∙ with_twice now first rest n k ∙ h
+
+-- nothing is left
+pub leaves_none : (old : Output) (whole : Part) (now : Output) (n : ℕ) → now.next ≡ n → Leaves old whole now (part n none) → now ≡ with_nodes old whole.nodes whole.next
+leaves_none old whole now n e h = with_none now ∙ ap (λ k. with_nodes now none k) e ∙ h
+
+-- the first of the rest is too much
+pub leaves_too_much : {B : Type 0} (Q : B → Type 0) (old : Output) (whole : Part) (now new : Output) (first rest : Nodes) (k : ℕ) (f : LowerError) (r : Result B LowerError) → IsErr r → IsErrAnd r (λ g. g ≡ f) → Leaves old whole now (part k (join first rest)) → (f ≢ NoMemory → most_instructions < now.count + instructions first) → Emits whole.nodes whole.next Q old new r
+leaves_too_much Q old whole now new first rest k f (Ok v) h e l m = cc
+leaves_too_much Q old whole now new first rest k f (Err g) h e l m = subst (λ x. x ≢ NoMemory → most_instructions < old.count + instructions whole.nodes) (sym e) (λ u. let t = m u in let c = ap (λ o. o.count) l in let j = instructions-join first rest in omega arith)
+
+pub ruleset loops = (instructions-join, items_of-join, join-none, join-join)

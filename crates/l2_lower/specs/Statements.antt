@@ -1,5 +1,5 @@
 -- What a statement becomes.
-use Rattle.std.specs.Prelude.{ℕ, zero, suc, List, [], ◌∷◌, ◌++◌}
+use Rattle.std.specs.Prelude.{ℕ, zero, suc, ◌≤◌, List, [], ◌∷◌, length}
 use Rattle.l2_runs.specs.declared.cells.CellType.{CellType}
 use Rattle.l2_runs.specs.declared.cells.CellType.TheVariants.{Integer, Pointer}
 use Rattle.l2_runs.specs.declared.cells.CellValue.TheVariants.{Invalid}
@@ -7,6 +7,8 @@ use Rattle.l2_runs.specs.Fits.{Layout}
 use Rattle.l2_program.specs.Checked as tree
 use Rattle.l2_program.specs.Checked.{TypedTree, CheckedTree, CheckedTrees}
 use Rattle.l2_program.specs.Types.{type_of}
+use Rattle.l2_program.specs.Programs.{ProgramTree}
+use Rattle.l2_meaning.specs.Execution.{cells_of}
 use Rattle.l2_meaning.specs.Meaning.{declared}
 use Rattle.l2_meaning.specs.Scopes as scopes
 use Rattle.l2_code.specs.declared.action.Operand.{Operand}
@@ -82,3 +84,7 @@ abbrev mutual
   pub statements : Layout → List ℕ → ℕ → CheckedTrees → Part
   statements cells scope n tree.none = part n none
   statements cells scope n (tree.more s rest) = followed (statement cells scope n s) (λ m. statements cells (scopes.behind scope s) m rest)
+
+-- no object has more cells than a program may have
+abbrev pub HaveFewCells : ProgramTree → Type 0
+HaveFewCells p = (o : ℕ) → length (cells_of p o) ≤ 65536

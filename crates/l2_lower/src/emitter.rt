@@ -52,7 +52,7 @@ impl Counts {
     }
 
     /// One instruction more.
-    fn rise(&mut self) -> Result<(), LowerError>
+    pub fn rise(&mut self) -> Result<(), LowerError>
         ensures ok { IfOk result (λ u. self.new ≡ record self.old { count = suc self.old.count }) }
         ensures err { IfErr result (λ e. 65536 ≤ self.old.count) }
     {

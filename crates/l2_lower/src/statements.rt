@@ -1,5 +1,5 @@
 // Statements.
-ghost use Rattle.std.specs.Prelude.{◌≡◌, true, [], ◌∷◌, ◌++◌, drop, length};
+ghost use Rattle.std.specs.Prelude.{◌≡◌, ◌≢◌, ◌≤◌, ◌<◌, ◌+◌, [], ◌∷◌, length, IfOk, IfErr};
 ghost use Rattle.l2_code.specs.Trees.{Block, Loop, none, more, items_of, join};
 ghost use Rattle.l2_program.specs.Checked.{typed_tree, checked_tree, checked_trees};
 ghost use Rattle.l2_program.specs.Checked as tree;
@@ -11,11 +11,14 @@ ghost use Rattle.l2_meaning.specs.Meaning.{declared};
 ghost use Rattle.l2_lower.specs.Emitting.{cell, only, expression};
 ghost use Rattle.l2_lower.specs.Statements.{filled, declaration, initialised, deads, statement, statements};
 ghost use Rattle.l2_lower.specs.Output.{output, Emits, Anything};
+ghost use Rattle.l2_lower.specs.declared.error.LowerError.TheVariants.{NoMemory};
+ghost use Rattle.l2_meaning.specs.Scopes.{behind};
+ghost use Rattle.l2_lower.specs.Statements.{HaveFewCells};
 
 use crate::emitter::{self, Counts};
 use crate::error::LowerError;
 use crate::expressions::{condition, expression};
-use l2_code::{Item, Operand};
+use l2_code::{Item, Operand, emit};
 use l2_program::{Checked, Program, Typed};
 use l2_runs::{CellType, CellValue, index_of};
 use std::alloc::Global;
@@ -57,4 +60,174 @@ fn fill_cell(
         CellType::Pointer => Operand::Constant(CellValue::Invalid),
     };
     emitter::write(alloc, out, at, ty, cell(o, f), value)
+}
+
+/// Each cell of an object without an initialiser.
+#[tactic(auto, using(crate::proofs::Outputs::loops))]
+fn fill(
+    alloc: Global,
+    out: &mut Vec<Item>,
+    at: &mut Counts,
+    o: u32,
+    types: &[CellType],
+) -> Result<(), LowerError>
+    requires { length types.now ≤ 65536 }
+    ensures { Emits (filled at.old.next o 0 types.now).nodes (filled at.old.next o 0 types.now).next Anything (output out.old.items at.old) (output out.new.items at.new) result }
+{
+    for i in 0..types.len() {
+        fill_cell(alloc, out, at, o, i as u32, types[i])?;
+    }
+    Ok(())
+}
+
+/// A declaration without an initialiser.
+#[tactic(auto, using(crate::proofs::Outputs::outputs))]
+pub fn declare(
+    alloc: Global,
+    p: &Program,
+    out: &mut Vec<Item>,
+    at: &mut Counts,
+    o: u32,
+) -> Result<(), LowerError>
+    requires { HaveFewCells (program_tree p.now) }
+    ensures { Emits (declaration (cells_of (program_tree p.now)) at.old.next o).nodes (declaration (cells_of (program_tree p.now)) at.old.next o).next Anything (output out.old.items at.old) (output out.new.items at.new) result }
+{
+    emitter::live(alloc, out, at, o)?;
+    fill(alloc, out, at, o, cells_of(p, o))
+}
+
+/// These objects die.
+#[tactic(auto, using(crate::proofs::Outputs::loops))]
+pub fn bury(
+    alloc: Global,
+    out: &mut Vec<Item>,
+    at: &mut Counts,
+    objects: &[u32],
+) -> Result<(), LowerError>
+    ensures { Emits (deads objects.now) at.old.next Anything (output out.old.items at.old) (output out.new.items at.new) result }
+{
+    for o in objects {
+        emitter::dead(alloc, out, at, *o)?;
+    }
+    Ok(())
+}
+
+/// The objects that are declared among these items die.
+#[tactic(auto, using(crate::proofs::Outputs::loops))]
+fn bury_declared(
+    alloc: Global,
+    out: &mut Vec<Item>,
+    at: &mut Counts,
+    all: &[Checked],
+) -> Result<(), LowerError>
+    ensures { Emits (deads (declared (checked_trees all.now))) at.old.next Anything (output out.old.items at.old) (output out.new.items at.new) result }
+{
+    for s in all {
+        bury_one(alloc, out, at, s)?;
+    }
+    Ok(())
+}
+
+/// The object that an item declares dies.
+#[tactic(auto, using(crate::proofs::Outputs::outputs))]
+fn bury_one(
+    alloc: Global,
+    out: &mut Vec<Item>,
+    at: &mut Counts,
+    s: &Checked,
+) -> Result<(), LowerError>
+    ensures { Emits (deads (declared (tree.more (checked_tree s.now) tree.none))) at.old.next Anything (output out.old.items at.old) (output out.new.items at.new) result }
+{
+    match s {
+        Checked::Declare(n) => emitter::dead(alloc, out, at, *n),
+        Checked::Initialise(n, _) => emitter::dead(alloc, out, at, *n),
+        Checked::Block(_) => Ok(()),
+        Checked::Static(_) => Ok(()),
+        Checked::Label(_) => Ok(()),
+        Checked::Evaluate(_) => Ok(()),
+        Checked::If(_, _) => Ok(()),
+        Checked::IfElse(_, _, _) => Ok(()),
+        Checked::While(_, _, _, _) => Ok(()),
+        Checked::Return(_) => Ok(()),
+    }
+}
+
+/// The objects in scope behind an item.
+fn go_behind(scope: &mut Vec<u32>, s: &Checked) -> Result<(), LowerError>
+    ensures ok { IfOk result (λ u. scope.new.items ≡ behind scope.old.items (checked_tree s.now)) }
+    ensures err { IfErr result (λ e. e ≡ NoMemory) }
+{
+    match s {
+        Checked::Declare(n) => scope.push(*n)?,
+        Checked::Initialise(n, _) => scope.push(*n)?,
+        Checked::Block(_) => {}
+        Checked::Static(_) => {}
+        Checked::Label(_) => {}
+        Checked::Evaluate(_) => {}
+        Checked::If(_, _) => {}
+        Checked::IfElse(_, _, _) => {}
+        Checked::While(_, _, _, _) => {}
+        Checked::Return(_) => {}
+    }
+    Ok(())
+}
+
+/// Items that a jump may leave, as one.
+#[tactic(auto, using(crate::proofs::Outputs::outputs))]
+fn push_block(out: &mut Vec<Item>, items: Vec<Item>) -> Result<(), LowerError>
+    ensures ok { IfOk result (λ u. items_of out.new.items ≡ join (items_of out.old.items) (more (Block (items_of items.items)) none)) }
+    ensures err { IfErr result (λ e. e ≡ NoMemory) }
+{
+    out.push(emit::block(items))?;
+    Ok(())
+}
+
+/// A loop, of which these items are a turn, with the jumps that leave it.
+#[tactic(auto, using(crate::proofs::Outputs::outputs))]
+fn loop_of(alloc: Global, at: &mut Counts, l: u32, turn: Vec<Item>) -> Result<Vec<Item>, LowerError>
+    ensures ok { IfOk result (λ v. (items_of v.items ≡ more (Loop l (items_of turn.items)) none) × (at.new ≡ record at.old { count = at.old.count + 2 })) }
+    ensures err { IfErr result (λ e. e ≢ NoMemory → 65536 < at.old.count + 2) }
+{
+    at.rise()?;
+    at.rise()?;
+    let mut items = Vec::new(alloc);
+    items.push(emit::turn(l, turn))?;
+    Ok(items)
+}
+
+/// A declaration with its initialiser.
+#[tactic(auto, using(crate::proofs::Outputs::outputs))]
+fn initialise(
+    alloc: Global,
+    p: &Program,
+    out: &mut Vec<Item>,
+    at: &mut Counts,
+    o: u32,
+    e: &Typed,
+) -> Result<(), LowerError>
+    requires typed { IsTyped (cells_of (program_tree p.now)) (typed_tree e.now) }
+    requires same { cells_of (program_tree p.now) o ≡ type_of (typed_tree e.now) }
+    ensures { Emits (statement (cells_of (program_tree p.now)) [] at.old.next (tree.Initialise o (typed_tree e.now))).nodes (statement (cells_of (program_tree p.now)) [] at.old.next (tree.Initialise o (typed_tree e.now))).next Anything (output out.old.items at.old) (output out.new.items at.new) result }
+{
+    emitter::live(alloc, out, at, o)?;
+    let a = expression(alloc, p, out, at, e)?;
+    take(alloc, p, out, at, o, a)
+}
+
+/// The cell of a scalar object takes an operand.
+#[tactic(auto, using(crate::proofs::Outputs::outputs))]
+fn take(
+    alloc: Global,
+    p: &Program,
+    out: &mut Vec<Item>,
+    at: &mut Counts,
+    o: u32,
+    a: Operand,
+) -> Result<(), LowerError>
+    ensures { Emits (initialised o (cells_of (program_tree p.now) o) a) at.old.next Anything (output out.old.items at.old) (output out.new.items at.new) result }
+{
+    match cells_of(p, o).get(0) {
+        Some(ty) => emitter::write(alloc, out, at, *ty, cell(o, 0), a),
+        None => Ok(()),
+    }
 }
