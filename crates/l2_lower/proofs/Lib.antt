@@ -10,3 +10,4 @@ pub mod Executions
 pub mod Outputs
 pub mod Weights
 pub mod OperandTypes
+pub mod Lists

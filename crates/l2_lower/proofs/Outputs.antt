@@ -15,6 +15,7 @@ use Rattle.l2_code.specs.declared.action.Test.TheVariants as test
 use Rattle.l2_code.specs.declared.action.Computation.TheVariants.{Numbers, Convert, Passes}
 use Rattle.l2_code.specs.Values.{operate, as_number}
 use Rattle.l2_meaning.proofs.Numbers.{zero_value}
+use Rattle.l2_program.proofs.Trees.{checked_tree-Block}
 use Rattle.l2_lower.specs.Emitting.{Emitted, Part, part, or_zero, computed}
 use Rattle.l2_code.specs.declared.code.Item.{Item}
 use Rattle.l2_code.specs.Trees.{Node, Nodes, none, more, join, tree_of, items_of}
@@ -94,3 +95,5 @@ leaves_too_much Q old whole now new first rest k f (Ok v) h e l m = cc
 leaves_too_much Q old whole now new first rest k f (Err g) h e l m = subst (λ x. x ≢ NoMemory → most_instructions < old.count + instructions whole.nodes) (sym e) (λ u. let t = m u in let c = ap (λ o. o.count) l in let j = instructions-join first rest in omega arith)
 
 pub ruleset loops = (instructions-join, items_of-join, join-none, join-join)
+
+pub ruleset statements = (instructions-join, items_of-join, join-none, join-join, checked_tree-Block)

@@ -68,18 +68,17 @@ abbrev mutual
       behind (only (Live o)) (using (expression n e) (λ m a. part m (initialised o (type_of e) a)))
   statement cells scope n (tree.Label l) = part n none
   statement cells scope n (tree.Evaluate e) = using (expression n e) (λ m a. part m none)
-  statement cells scope n (tree.If e s) =
-      as_block (using (condition n e) (λ m a. behind (only (Unless a 0)) (statement cells scope m s)))
+  statement cells scope n (tree.If e s) = as_block (guarded cells scope n e s)
   -- the first side jumps over the second
   statement cells scope n (tree.IfElse e s t) =
-      as_block (followed
-      (as_block (using (condition n e) (λ m a. behind (only (Unless a 0)) (followed (statement cells scope m s) (λ k. part k (only (Goto 1)))))))
-      (λ m. statement cells scope m t))
-  -- the jump at the head leaves the block round the loop
-  statement cells scope n (tree.While l named e s) =
-      as_block (as_loop l (using (condition n e) (λ m a. behind (only (Unless a 0)) (statement cells scope m s))))
+      as_block (followed (as_block (followed (guarded cells scope n e s) (λ k. part k (only (Goto 1))))) (λ m. statement cells scope m t))
+  statement cells scope n (tree.While l named e s) = as_block (as_loop l (guarded cells scope n e s))
   -- `return` of `main`: what is in scope dies, and the execution ends
   statement cells scope n (tree.Return e) = using (expression n e) (λ m a. part m (join (deads scope) (only End)))
+
+  -- a condition, and what is done where it holds; past it the innermost block is left
+  pub guarded : Layout → List ℕ → ℕ → TypedTree → CheckedTree → Part
+  guarded cells scope n e s = using (condition n e) (λ m a. behind (only (Unless a 0)) (statement cells scope m s))
 
   pub statements : Layout → List ℕ → ℕ → CheckedTrees → Part
   statements cells scope n tree.none = part n none

@@ -1,5 +1,6 @@
 // Statements.
-ghost use Rattle.std.specs.Prelude.{◌≡◌, ◌≢◌, ◌≤◌, ◌<◌, ◌+◌, [], ◌∷◌, length, IfOk, IfErr};
+ghost use Rattle.std.specs.Prelude.{◌≡◌, ◌≢◌, ◌≤◌, ◌<◌, ◌+◌, [], ◌++◌, length, IfOk, IfErr};
+ghost use Rattle.l2_code.specs.declared.action.Action.TheVariants.{End};
 ghost use Rattle.l2_code.specs.Trees.{Block, Loop, none, more, items_of, join};
 ghost use Rattle.l2_program.specs.Checked.{typed_tree, checked_tree, checked_trees};
 ghost use Rattle.l2_program.specs.Checked as tree;
@@ -9,7 +10,7 @@ ghost use Rattle.l2_meaning.specs.Execution.{cells_of};
 ghost use Rattle.l2_meaning.specs.Lawful.{IsInteger, IsTyped, IsTypedStatement, AreTyped, main_result};
 ghost use Rattle.l2_meaning.specs.Meaning.{declared};
 ghost use Rattle.l2_lower.specs.Emitting.{cell, only, expression};
-ghost use Rattle.l2_lower.specs.Statements.{filled, declaration, initialised, deads, statement, statements};
+ghost use Rattle.l2_lower.specs.Statements.{filled, declaration, initialised, deads, guarded, statement, statements};
 ghost use Rattle.l2_lower.specs.Output.{output, Emits, Anything};
 ghost use Rattle.l2_lower.specs.declared.error.LowerError.TheVariants.{NoMemory};
 ghost use Rattle.l2_meaning.specs.Scopes.{behind};
@@ -230,4 +231,203 @@ fn take(
         Some(ty) => emitter::write(alloc, out, at, *ty, cell(o, 0), a),
         None => Ok(()),
     }
+}
+
+/// What a statement becomes, where these objects are in scope.
+#[cycle(statements)]
+#[tactic(auto, using(crate::proofs::Outputs::statements))]
+pub fn statement(
+    alloc: Global,
+    p: &Program,
+    out: &mut Vec<Item>,
+    at: &mut Counts,
+    scope: &mut Vec<u32>,
+    s: &Checked,
+) -> Result<(), LowerError>
+    requires few { HaveFewCells (program_tree p.now) }
+    requires typed { IsTypedStatement (cells_of (program_tree p.now)) main_result (checked_tree s.now) }
+    ensures emits { Emits (statement (cells_of (program_tree p.now)) scope.old.items at.old.next (checked_tree s.now)).nodes (statement (cells_of (program_tree p.now)) scope.old.items at.old.next (checked_tree s.now)).next Anything (output out.old.items at.old) (output out.new.items at.new) result }
+    ensures scope { IfOk result (λ u. scope.new.items ≡ scope.old.items) }
+{
+    match s {
+        Checked::Block(all) => block(alloc, p, out, at, scope, all),
+        Checked::Declare(n) => declare(alloc, p, out, at, *n),
+        Checked::Static(_) => Ok(()),
+        Checked::Initialise(n, e) => initialise(alloc, p, out, at, *n, e),
+        Checked::Label(_) => Ok(()),
+        Checked::Evaluate(e) => {
+            expression(alloc, p, out, at, e)?;
+            Ok(())
+        }
+        Checked::If(e, s) => one_side(alloc, p, out, at, scope, e, s),
+        Checked::IfElse(e, s, t) => two_sides(alloc, p, out, at, scope, e, s, t),
+        Checked::While(l, _, e, s) => repeat(alloc, p, out, at, scope, *l, e, s),
+        Checked::Return(e) => {
+            expression(alloc, p, out, at, e)?;
+            leave(alloc, out, at, scope)
+        }
+    }
+}
+
+/// `return` of `main`: what is in scope dies, and the execution ends.
+#[tactic(auto, using(crate::proofs::Outputs::outputs))]
+pub fn leave(
+    alloc: Global,
+    out: &mut Vec<Item>,
+    at: &mut Counts,
+    scope: &[u32],
+) -> Result<(), LowerError>
+    ensures { Emits (join (deads scope.now) (only End)) at.old.next Anything (output out.old.items at.old) (output out.new.items at.new) result }
+{
+    bury(alloc, out, at, scope)?;
+    emitter::end(alloc, out, at)
+}
+
+/// What a block becomes.
+#[cycle(statements)]
+#[tactic(auto, using(crate::proofs::Outputs::statements))]
+fn block(
+    alloc: Global,
+    p: &Program,
+    out: &mut Vec<Item>,
+    at: &mut Counts,
+    scope: &mut Vec<u32>,
+    all: &[Checked],
+) -> Result<(), LowerError>
+    requires few { HaveFewCells (program_tree p.now) }
+    requires typed { AreTyped (cells_of (program_tree p.now)) main_result (checked_trees all.now) }
+    ensures emits { Emits (statement (cells_of (program_tree p.now)) scope.old.items at.old.next (tree.Block (checked_trees all.now))).nodes (statement (cells_of (program_tree p.now)) scope.old.items at.old.next (tree.Block (checked_trees all.now))).next Anything (output out.old.items at.old) (output out.new.items at.new) result }
+    ensures scope { IfOk result (λ u. scope.new.items ≡ scope.old.items) }
+{
+    let count = scope.len();
+    items(alloc, p, out, at, scope, all)?;
+    scope.truncate(count);
+    bury_declared(alloc, out, at, all)
+}
+
+/// What statements become, one after another; the objects that they declare are in scope behind them.
+#[cycle(statements)]
+#[tactic(auto, using(crate::proofs::Outputs::statements))]
+fn items(
+    alloc: Global,
+    p: &Program,
+    out: &mut Vec<Item>,
+    at: &mut Counts,
+    scope: &mut Vec<u32>,
+    all: &[Checked],
+) -> Result<(), LowerError>
+    requires few { HaveFewCells (program_tree p.now) }
+    requires typed { AreTyped (cells_of (program_tree p.now)) main_result (checked_trees all.now) }
+    ensures emits { Emits (statements (cells_of (program_tree p.now)) scope.old.items at.old.next (checked_trees all.now)).nodes (statements (cells_of (program_tree p.now)) scope.old.items at.old.next (checked_trees all.now)).next Anything (output out.old.items at.old) (output out.new.items at.new) result }
+    ensures scope { IfOk result (λ u. scope.new.items ≡ scope.old.items ++ declared (checked_trees all.now)) }
+{
+    for s in all {
+        statement(alloc, p, out, at, scope, s)?;
+        go_behind(scope, s)?;
+    }
+    Ok(())
+}
+
+/// What a condition becomes with the statement behind it, past which the innermost block is left.
+#[cycle(statements)]
+#[tactic(auto, using(crate::proofs::Outputs::statements))]
+fn guarded(
+    alloc: Global,
+    p: &Program,
+    out: &mut Vec<Item>,
+    at: &mut Counts,
+    scope: &mut Vec<u32>,
+    e: &Typed,
+    s: &Checked,
+) -> Result<(), LowerError>
+    requires few { HaveFewCells (program_tree p.now) }
+    requires test { IsTyped (cells_of (program_tree p.now)) (typed_tree e.now) }
+    requires integer { IsInteger (type_of (typed_tree e.now)) }
+    requires body { IsTypedStatement (cells_of (program_tree p.now)) main_result (checked_tree s.now) }
+    ensures emits { Emits (guarded (cells_of (program_tree p.now)) scope.old.items at.old.next (typed_tree e.now) (checked_tree s.now)).nodes (guarded (cells_of (program_tree p.now)) scope.old.items at.old.next (typed_tree e.now) (checked_tree s.now)).next Anything (output out.old.items at.old) (output out.new.items at.new) result }
+    ensures scope { IfOk result (λ u. scope.new.items ≡ scope.old.items) }
+{
+    let a = condition(alloc, p, out, at, e)?;
+    emitter::unless(alloc, out, at, a)?;
+    statement(alloc, p, out, at, scope, s)
+}
+
+/// What an `if` becomes.
+#[cycle(statements)]
+#[tactic(auto, using(crate::proofs::Outputs::statements))]
+fn one_side(
+    alloc: Global,
+    p: &Program,
+    out: &mut Vec<Item>,
+    at: &mut Counts,
+    scope: &mut Vec<u32>,
+    e: &Typed,
+    s: &Checked,
+) -> Result<(), LowerError>
+    requires few { HaveFewCells (program_tree p.now) }
+    requires test { IsTyped (cells_of (program_tree p.now)) (typed_tree e.now) }
+    requires integer { IsInteger (type_of (typed_tree e.now)) }
+    requires body { IsTypedStatement (cells_of (program_tree p.now)) main_result (checked_tree s.now) }
+    ensures emits { Emits (statement (cells_of (program_tree p.now)) scope.old.items at.old.next (tree.If (typed_tree e.now) (checked_tree s.now))).nodes (statement (cells_of (program_tree p.now)) scope.old.items at.old.next (tree.If (typed_tree e.now) (checked_tree s.now))).next Anything (output out.old.items at.old) (output out.new.items at.new) result }
+    ensures scope { IfOk result (λ u. scope.new.items ≡ scope.old.items) }
+{
+    let mut inner = Vec::new(alloc);
+    guarded(alloc, p, &mut inner, at, scope, e, s)?;
+    push_block(out, inner)
+}
+
+/// What an `if` with an `else` becomes.
+#[cycle(statements)]
+#[tactic(auto, using(crate::proofs::Outputs::statements))]
+fn two_sides(
+    alloc: Global,
+    p: &Program,
+    out: &mut Vec<Item>,
+    at: &mut Counts,
+    scope: &mut Vec<u32>,
+    e: &Typed,
+    s: &Checked,
+    t: &Checked,
+) -> Result<(), LowerError>
+    requires few { HaveFewCells (program_tree p.now) }
+    requires test { IsTyped (cells_of (program_tree p.now)) (typed_tree e.now) }
+    requires integer { IsInteger (type_of (typed_tree e.now)) }
+    requires first { IsTypedStatement (cells_of (program_tree p.now)) main_result (checked_tree s.now) }
+    requires second { IsTypedStatement (cells_of (program_tree p.now)) main_result (checked_tree t.now) }
+    ensures emits { Emits (statement (cells_of (program_tree p.now)) scope.old.items at.old.next (tree.IfElse (typed_tree e.now) (checked_tree s.now) (checked_tree t.now))).nodes (statement (cells_of (program_tree p.now)) scope.old.items at.old.next (tree.IfElse (typed_tree e.now) (checked_tree s.now) (checked_tree t.now))).next Anything (output out.old.items at.old) (output out.new.items at.new) result }
+    ensures scope { IfOk result (λ u. scope.new.items ≡ scope.old.items) }
+{
+    let mut first = Vec::new(alloc);
+    guarded(alloc, p, &mut first, at, scope, e, s)?;
+    emitter::goto(alloc, &mut first, at)?;
+    let mut both = Vec::new(alloc);
+    push_block(&mut both, first)?;
+    statement(alloc, p, &mut both, at, scope, t)?;
+    push_block(out, both)
+}
+
+/// What a `while` becomes.
+#[cycle(statements)]
+#[tactic(auto, using(crate::proofs::Outputs::statements))]
+fn repeat(
+    alloc: Global,
+    p: &Program,
+    out: &mut Vec<Item>,
+    at: &mut Counts,
+    scope: &mut Vec<u32>,
+    l: u32,
+    e: &Typed,
+    s: &Checked,
+) -> Result<(), LowerError>
+    requires few { HaveFewCells (program_tree p.now) }
+    requires test { IsTyped (cells_of (program_tree p.now)) (typed_tree e.now) }
+    requires integer { IsInteger (type_of (typed_tree e.now)) }
+    requires body { IsTypedStatement (cells_of (program_tree p.now)) main_result (checked_tree s.now) }
+    ensures emits { Emits (statement (cells_of (program_tree p.now)) scope.old.items at.old.next (tree.While l [] (typed_tree e.now) (checked_tree s.now))).nodes (statement (cells_of (program_tree p.now)) scope.old.items at.old.next (tree.While l [] (typed_tree e.now) (checked_tree s.now))).next Anything (output out.old.items at.old) (output out.new.items at.new) result }
+    ensures scope { IfOk result (λ u. scope.new.items ≡ scope.old.items) }
+{
+    let mut turn = Vec::new(alloc);
+    guarded(alloc, p, &mut turn, at, scope, e, s)?;
+    let inner = loop_of(alloc, at, l, turn)?;
+    push_block(out, inner)
 }

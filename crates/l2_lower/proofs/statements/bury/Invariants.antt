@@ -7,4 +7,4 @@ use Rattle.l2_lower.proofs.statements.bury.Given as goal
 
 abbrev pub invariant-loop-o : goal.invariant-loop-o
 invariant-loop-o l =
-    Leaves (output l.initial.out.items l.initial.at) (part l.initial.at.next (deads l.initial.objects)) (output l.out.items l.at) (part l.at.next (deads (drop l.o-index l.objects)))
+    Leaves (output l.initial.out.items l.initial.at) (part l.initial.at.next (deads l.initial.objects)) (output l.out.items l.at) (part l.initial.at.next (deads (drop l.o-index l.objects))) × (l.at.next ≡ l.initial.at.next)

@@ -1,0 +1,79 @@
+-- What loops over lists emit, item by item.
+use Rattle.std.proofs.Common.{◌≡◌, ℕ, zero, suc, ◌+◌, ◌<◌, ◌≤◌, List, [], ◌∷◌, ◌++◌, length, get_or, drop, take, refl, sym, ap, subst, ◌∙◌, arith}
+use Rattle.std.proofs.lemmas.List.{drop_more, drop_all}
+use Rattle.l2_runs.specs.declared.cells.CellType.{CellType}
+use Rattle.l2_runs.specs.declared.cells.CellType.TheVariants.{Integer, Pointer}
+use Rattle.l2_program.specs.declared.checked.Checked.{Checked}
+use Rattle.l2_program.specs.Checked.{CheckedTree, Block, Declare, Static, Initialise, Label, Evaluate, If, IfElse, While, Return, CheckedTrees, none, more, checked_tree, checked_trees}
+use Rattle.l2_meaning.specs.Meaning.{declared}
+use Rattle.l2_meaning.specs.Scopes.{behind}
+use Rattle.l2_code.specs.declared.action.Action.TheVariants.{Dead}
+use Rattle.l2_code.specs.Trees as code
+use Rattle.l2_lower.specs.Emitting.{only, Part, part}
+use Rattle.l2_lower.specs.Statements.{filled, deads}
+use Rattle.l2_lower.specs.Output.{Output, with_nodes}
+use Rattle.l2_lower.proofs.Outputs.{Leaves, leaves_less, leaves_none}
+
+-- ---- objects that die
+
+-- what is left of objects to bury
+abbrev pub Buries : Output → ℕ → List ℕ → Output → List ℕ → Type 0
+Buries old n all now rest = Leaves old (part n (deads all)) now (part n (deads rest)) × (now.next ≡ n)
+
+pub bury_step : (old : Output) (n : ℕ) (all : List ℕ) (now new : Output) (i d : ℕ) → i < length all → new ≡ with_nodes now (only (Dead (get_or all i d))) now.next → Buries old n all now (drop i all) → Buries old n all new (drop (i + 1) all)
+bury_step old n all now new i d h e (inv, q) =
+    (leaves_less old (part n (deads all)) now new (only (Dead (get_or all i d))) (deads (drop (i + 1) all)) now.next n e (subst (λ xs. Leaves old (part n (deads all)) now (part n (deads xs))) (drop_more all i d h) inv), ap (λ o. o.next) e ∙ q)
+
+pub bury_end : (old : Output) (n : ℕ) (all : List ℕ) (now : Output) (i : ℕ) → length all ≤ i → Buries old n all now (drop i all) → now ≡ with_nodes old (deads all) n
+bury_end old n all now i h (inv, q) = leaves_none old (part n (deads all)) now n q (subst (λ xs. Leaves old (part n (deads all)) now (part n (deads xs))) (drop_all i all h) inv)
+
+abbrev pub deads_of : List Checked → code.Nodes
+deads_of all = deads (declared (checked_trees all))
+
+one_of : (s : CheckedTree) (rest : CheckedTrees) → deads (declared (more s rest)) ≡ code.join (deads (declared (more s none))) (deads (declared rest))
+one_of (Block all) rest = refl
+one_of (Declare n) rest = refl
+one_of (Static n) rest = refl
+one_of (Initialise n e) rest = refl
+one_of (Label n) rest = refl
+one_of (Evaluate e) rest = refl
+one_of (If e s) rest = refl
+one_of (IfElse e s t) rest = refl
+one_of (While l named e s) rest = refl
+one_of (Return e) rest = refl
+
+abbrev pub BuriesAll : Output → ℕ → List Checked → Output → List Checked → Type 0
+BuriesAll old n all now rest = Leaves old (part n (deads_of all)) now (part n (deads_of rest)) × (now.next ≡ n)
+
+pub bury_all_step : (old : Output) (n : ℕ) (all : List Checked) (now new : Output) (i : ℕ) (s : Checked) → i < length all → s ≡ get_or all i s → new ≡ with_nodes now (deads (declared (more (checked_tree s) none))) now.next → BuriesAll old n all now (drop i all) → BuriesAll old n all new (drop (i + 1) all)
+bury_all_step old n all now new i s h is e (inv, q) =
+    (leaves_less old (part n (deads_of all)) now new (deads (declared (more (checked_tree s) none))) (deads_of (drop (i + 1) all)) now.next n e
+    (subst (λ xs. Leaves old (part n (deads_of all)) now (part n xs)) (ap deads_of (drop_more all i s h) ∙ ap (λ x. deads_of (x ∷ drop (i + 1) all)) (sym is) ∙ one_of (checked_tree s) (checked_trees (drop (i + 1) all))) inv), ap (λ o. o.next) e ∙ q)
+
+pub bury_all_end : (old : Output) (n : ℕ) (all : List Checked) (now : Output) (i : ℕ) → length all ≤ i → BuriesAll old n all now (drop i all) → now ≡ with_nodes old (deads_of all) n
+bury_all_end old n all now i h (inv, q) = leaves_none old (part n (deads_of all)) now n q (subst (λ xs. Leaves old (part n (deads_of all)) now (part n (deads_of xs))) (drop_all i all h) inv)
+
+-- ---- cells that are filled
+
+first_filled : (n o f : ℕ) (t : CellType) (rest : List CellType) → filled n o f (t ∷ rest) ≡ part (filled (filled n o f (t ∷ [])).next o (suc f) rest).next (code.join (filled n o f (t ∷ [])).nodes (filled (filled n o f (t ∷ [])).next o (suc f) rest).nodes)
+first_filled n o f (Integer ty) rest = refl
+first_filled n o f Pointer rest = refl
+
+abbrev pub Fills : Output → ℕ → List CellType → Output → ℕ → List CellType → Type 0
+Fills old o types now f rest = Leaves old (filled old.next o 0 types) now (filled now.next o f rest)
+
+pub fill_step : (old : Output) (o : ℕ) (types : List CellType) (now new : Output) (i : ℕ) (t : CellType) → i < length types → t ≡ get_or types i t → new ≡ with_nodes now (filled now.next o i (t ∷ [])).nodes (filled now.next o i (t ∷ [])).next → Fills old o types now i (drop i types) → Fills old o types new (i + 1) (drop (i + 1) types)
+fill_step old o types now new i t h is e inv =
+    let first = filled now.next o i (t ∷ []) in
+    let rest = drop (i + 1) types in
+    let next : new.next ≡ first.next = ap (λ x. x.next) e in
+    let i1 : suc i ≡ i + 1 = omega arith in
+    let whole = filled old.next o 0 types in
+    let later = filled first.next o (suc i) rest in
+    let left = subst (λ xs. Leaves old whole now (filled now.next o i xs)) (drop_more types i t h ∙ ap (λ x. x ∷ rest) (sym is)) inv in
+    subst (λ j. Leaves old whole new (filled new.next o j rest)) i1
+    (subst (λ k. Leaves old whole new (filled k o (suc i) rest)) (sym next)
+    (leaves_less old whole now new first.nodes later.nodes first.next later.next e (subst (λ p. Leaves old whole now p) (first_filled now.next o i t rest) left)))
+
+pub fill_end : (old : Output) (o : ℕ) (types : List CellType) (now : Output) (i : ℕ) → length types ≤ i → Fills old o types now i (drop i types) → now ≡ with_nodes old (filled old.next o 0 types).nodes (filled old.next o 0 types).next
+fill_end old o types now i h inv = leaves_none old (filled old.next o 0 types) now now.next refl (subst (λ xs. Leaves old (filled old.next o 0 types) now (filled now.next o i xs)) (drop_all i types h) inv)
