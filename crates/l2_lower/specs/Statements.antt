@@ -27,6 +27,10 @@ using x f = behind x.nodes (f x.next x.operand)
 abbrev pub followed : Part → (ℕ → Part) → Part
 followed p f = behind p.nodes (f p.next)
 
+-- a condition, and what is done where it holds; past it the innermost block is left
+abbrev pub guard : Emitted → (ℕ → Part) → Part
+guard x f = using x (λ m a. behind (only (Unless a 0)) (f m))
+
 -- one item of these
 abbrev pub as_block : Part → Part
 as_block p = part p.next (more (Block p.nodes) none)
@@ -68,21 +72,20 @@ abbrev mutual
       behind (only (Live o)) (using (expression n e) (λ m a. part m (initialised o (type_of e) a)))
   statement cells scope n (tree.Label l) = part n none
   statement cells scope n (tree.Evaluate e) = using (expression n e) (λ m a. part m none)
-  statement cells scope n (tree.If e s) = as_block (guarded cells scope n e s)
+  statement cells scope n (tree.If e s) = as_block (guard (condition n e) (λ m. statement cells scope m s))
   -- the first side jumps over the second
   statement cells scope n (tree.IfElse e s t) =
-      as_block (followed (as_block (followed (guarded cells scope n e s) (λ k. part k (only (Goto 1))))) (λ m. statement cells scope m t))
-  statement cells scope n (tree.While l named e s) = as_block (as_loop l (guarded cells scope n e s))
+      as_block (followed (as_block (followed (guard (condition n e) (λ m. statement cells scope m s)) (λ k. part k (only (Goto 1))))) (λ m. statement cells scope m t))
+  statement cells scope n (tree.While l named e s) = as_block (as_loop l (guard (condition n e) (λ m. statement cells scope m s)))
   -- `return` of `main`: what is in scope dies, and the execution ends
   statement cells scope n (tree.Return e) = using (expression n e) (λ m a. part m (join (deads scope) (only End)))
-
-  -- a condition, and what is done where it holds; past it the innermost block is left
-  pub guarded : Layout → List ℕ → ℕ → TypedTree → CheckedTree → Part
-  guarded cells scope n e s = using (condition n e) (λ m a. behind (only (Unless a 0)) (statement cells scope m s))
 
   pub statements : Layout → List ℕ → ℕ → CheckedTrees → Part
   statements cells scope n tree.none = part n none
   statements cells scope n (tree.more s rest) = followed (statement cells scope n s) (λ m. statements cells (scopes.behind scope s) m rest)
+
+abbrev pub guarded : Layout → List ℕ → ℕ → TypedTree → CheckedTree → Part
+guarded cells scope n e s = guard (condition n e) (λ m. statement cells scope m s)
 
 -- no object has more cells than a program may have
 abbrev pub HaveFewCells : ProgramTree → Type 0

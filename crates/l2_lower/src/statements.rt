@@ -1,5 +1,5 @@
 // Statements.
-ghost use Rattle.std.specs.Prelude.{◌≡◌, ◌≢◌, ◌≤◌, ◌<◌, ◌+◌, [], ◌++◌, length, IfOk, IfErr};
+ghost use Rattle.std.specs.Prelude.{◌≡◌, ◌≢◌, ◌≤◌, ◌<◌, ◌+◌, [], ◌∷◌, ◌++◌, length, IfOk, IfErr};
 ghost use Rattle.l2_code.specs.declared.action.Action.TheVariants.{End};
 ghost use Rattle.l2_code.specs.Trees.{Block, Loop, none, more, items_of, join};
 ghost use Rattle.l2_program.specs.Checked.{typed_tree, checked_tree, checked_trees};
