@@ -1,6 +1,12 @@
 -- What loops over lists emit, item by item.
 use Rattle.std.proofs.Common.{◌≡◌, ℕ, zero, suc, ◌+◌, ◌<◌, ◌≤◌, List, [], ◌∷◌, ◌++◌, length, get_or, drop, take, refl, sym, ap, subst, ◌∙◌, arith}
-use Rattle.std.proofs.lemmas.List.{drop_more, drop_all}
+use Rattle.std.specs.Prelude.{Result, Ok, Err, ◌≢◌}
+use Rattle.std.specs.Result.{IsErr, IsErrAnd}
+use Rattle.std.proofs.lemmas.List.{drop_more, drop_all, append_assoc}
+use Rattle.l2_runs.specs.Fits.{Layout}
+use Rattle.l2_code.specs.Sizes.{instructions}
+use Rattle.l2_lower.specs.declared.error.LowerError.{LowerError}
+use Rattle.l2_lower.specs.declared.error.LowerError.TheVariants.{NoMemory}
 use Rattle.l2_runs.specs.declared.cells.CellType.{CellType}
 use Rattle.l2_runs.specs.declared.cells.CellType.TheVariants.{Integer, Pointer}
 use Rattle.l2_program.specs.declared.checked.Checked.{Checked}
@@ -10,9 +16,9 @@ use Rattle.l2_meaning.specs.Scopes.{behind}
 use Rattle.l2_code.specs.declared.action.Action.TheVariants.{Dead}
 use Rattle.l2_code.specs.Trees as code
 use Rattle.l2_lower.specs.Emitting.{only, Part, part}
-use Rattle.l2_lower.specs.Statements.{filled, deads}
-use Rattle.l2_lower.specs.Output.{Output, with_nodes}
-use Rattle.l2_lower.proofs.Outputs.{Leaves, leaves_less, leaves_none}
+use Rattle.l2_lower.specs.Statements.{filled, deads, statement, statements}
+use Rattle.l2_lower.specs.Output.{Output, with_nodes, Emits, most_instructions}
+use Rattle.l2_lower.proofs.Outputs.{Leaves, leaves_less, leaves_none, leaves_too_much}
 
 -- ---- objects that die
 
@@ -77,3 +83,52 @@ fill_step old o types now new i t h is e inv =
 
 pub fill_end : (old : Output) (o : ℕ) (types : List CellType) (now : Output) (i : ℕ) → length types ≤ i → Fills old o types now i (drop i types) → now ≡ with_nodes old (filled old.next o 0 types).nodes (filled old.next o 0 types).next
 fill_end old o types now i h inv = leaves_none old (filled old.next o 0 types) now now.next refl (subst (λ xs. Leaves old (filled old.next o 0 types) now (filled now.next o i xs)) (drop_all i types h) inv)
+
+-- ---- statements
+
+abbrev pub statements_of : Layout → List ℕ → ℕ → List Checked → Part
+statements_of cells scope n all = statements cells scope n (checked_trees all)
+
+abbrev pub LeavesItems : Layout → Output → Part → Output → List ℕ → List Checked → Type 0
+LeavesItems cells old whole now scope rest = Leaves old whole now (statements_of cells scope now.next rest)
+
+declares : (scope : List ℕ) (s : CheckedTree) (rest : CheckedTrees) → behind scope s ++ declared rest ≡ scope ++ declared (more s rest)
+declares scope (Block all) rest = refl
+declares scope (Declare n) rest = append_assoc scope (n ∷ []) (declared rest)
+declares scope (Static n) rest = refl
+declares scope (Initialise n e) rest = append_assoc scope (n ∷ []) (declared rest)
+declares scope (Label n) rest = refl
+declares scope (Evaluate e) rest = refl
+declares scope (If e s) rest = refl
+declares scope (IfElse e s t) rest = refl
+declares scope (While l named e s) rest = refl
+declares scope (Return e) rest = refl
+
+pub first_item : (F : CheckedTrees → Type 0) (all : List Checked) (i : ℕ) (s : Checked) → i < length all → s ≡ get_or all i s → F (checked_trees (drop i all)) → F (more (checked_tree s) (checked_trees (drop (i + 1) all)))
+first_item F all i s h is p = subst F (ap checked_trees (drop_more all i s h) ∙ ap (λ x. more (checked_tree x) (checked_trees (drop (i + 1) all))) (sym is)) p
+
+pub items_step : (cells : Layout) (old : Output) (whole : Part) (now new : Output) (scope scope' total : List ℕ) (all : List Checked) (i : ℕ) (s : Checked) → i < length all → s ≡ get_or all i s →
+    new ≡ with_nodes now (statement cells scope now.next (checked_tree s)).nodes (statement cells scope now.next (checked_tree s)).next → scope' ≡ behind scope (checked_tree s) →
+    LeavesItems cells old whole now scope (drop i all) × (scope ++ declared (checked_trees (drop i all)) ≡ total) → LeavesItems cells old whole new scope' (drop (i + 1) all) × (scope' ++ declared (checked_trees (drop (i + 1) all)) ≡ total)
+items_step cells old whole now new scope scope' total all i s h is e b (inv, q) = (left, declares_so) where
+  left : Leaves old whole new (statements cells scope' new.next (checked_trees (drop (i + 1) all)))
+  left =
+      let rest = checked_trees (drop (i + 1) all) in
+      let first = statement cells scope now.next (checked_tree s) in
+      let later = statements cells (behind scope (checked_tree s)) first.next rest in
+      subst (λ z. Leaves old whole new (statements cells z new.next rest)) (sym b)
+      (subst (λ k. Leaves old whole new (statements cells (behind scope (checked_tree s)) k rest)) (sym (ap (λ o. o.next) e))
+      (leaves_less old whole now new first.nodes later.nodes first.next later.next e (first_item (λ ts. Leaves old whole now (statements cells scope now.next ts)) all i s h is inv)))
+
+  declares_so : scope' ++ declared (checked_trees (drop (i + 1) all)) ≡ total
+  declares_so = ap (λ z. z ++ declared (checked_trees (drop (i + 1) all))) b ∙ declares scope (checked_tree s) (checked_trees (drop (i + 1) all)) ∙ first_item (λ ts. scope ++ declared ts ≡ total) all i s h is q
+
+pub items_end : (cells : Layout) (old : Output) (whole : Part) (now : Output) (scope : List ℕ) (all : List Checked) (i : ℕ) → length all ≤ i → LeavesItems cells old whole now scope (drop i all) → now ≡ with_nodes old whole.nodes whole.next
+items_end cells old whole now scope all i h inv = leaves_none old whole now now.next refl (subst (λ xs. LeavesItems cells old whole now scope xs) (drop_all i all h) inv)
+
+pub items_fail : {B : Type 0} (Q : B → Type 0) (cells : Layout) (old : Output) (whole : Part) (now new : Output) (scope : List ℕ) (all : List Checked) (i : ℕ) (s : Checked) (f : LowerError) (r : Result B LowerError) → i < length all → s ≡ get_or all i s → IsErr r → IsErrAnd r (λ g. g ≡ f) →
+    LeavesItems cells old whole now scope (drop i all) → (f ≢ NoMemory → most_instructions < now.count + instructions (statement cells scope now.next (checked_tree s)).nodes) → Emits whole.nodes whole.next Q old new r
+items_fail Q cells old whole now new scope all i s f r h is x y inv m =
+    let first = statement cells scope now.next (checked_tree s) in
+    let later = statements cells (behind scope (checked_tree s)) first.next (checked_trees (drop (i + 1) all)) in
+    leaves_too_much Q old whole now new first.nodes later.nodes later.next f r x y (first_item (λ ts. Leaves old whole now (statements cells scope now.next ts)) all i s h is inv) m

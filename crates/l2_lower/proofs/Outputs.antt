@@ -97,3 +97,8 @@ leaves_too_much Q old whole now new first rest k f (Err g) h e l m = subst (λ x
 pub ruleset loops = (instructions-join, items_of-join, join-none, join-join)
 
 pub ruleset statements = (instructions-join, items_of-join, join-none, join-join, checked_tree-Block)
+
+-- one thing is emitted and then another
+pub emits_then : {A : Type 0} (Q : A → Type 0) (old mid new : Output) (xs ys : Nodes) (n k : ℕ) (r : Result A LowerError) → mid ≡ with_nodes old xs n → Emits ys k Q mid new r → Emits (join xs ys) k Q old new r
+emits_then Q old mid new xs ys n k (Ok a) e (p, q) = (p, q ∙ ap (λ o. with_nodes o ys k) e ∙ with_twice old xs ys n k)
+emits_then Q old mid new xs ys n k (Err f) e m = λ u. let t = m u in let c = ap (λ o. o.count) e in let j = instructions-join xs ys in omega arith

@@ -32,6 +32,7 @@ use Rattle.l2_code.specs.Machine as machine
 use Rattle.l2_lower.specs.Alike.{AreUsedAlike, AreAlike}
 use Rattle.l2_lower.specs.Emitting.{only, cell, Emitted, expression, condition}
 use Rattle.l2_lower.specs.Statements.{filled, declaration, initialised, deads, statement, statements}
+use Rattle.l2_code.proofs.Items.{join-join}
 use Rattle.l2_lower.proofs.Matches.{AnyTwo, Match, Matches, then_match, then_matches, weaker_matches, done_matches, choose_matches, enliven_matches, bury_matches, told_matches, alone_matches}
 use Rattle.l2_lower.proofs.MatchLoops.{AreFine, StartsAlike, Turned, Left, loop_match}
 use Rattle.l2_lower.proofs.Joins.{join_is, join_matches, one_is, only_is, assoc_twice}
@@ -362,8 +363,9 @@ module _ (cells : Layout) (pointed : ℕ → List CellType) (Fine : End → Type
       statement_does (tree.IfElse e s z) (h, is, k, k') ok b scope n t =
           let m = (condition n e).next in
           let xs = statement cells scope m s in
+          subst (λ all. Does b (act tree_at b (tree.IfElse e s z)) (more (Block (more (Block all) (statement cells scope xs.next z).nodes)) none) t) (sym (join-join (condition n e).nodes (more (Do (action.Unless (condition n e).operand 0)) xs.nodes) (only (action.Goto 1)))) (
           both_sides b e n t xs.nodes (statement cells scope xs.next z).nodes (act tree_at b s) (act tree_at b z) (tested_by cells pointed Fine fine limit tests b calls true e n t is (expression_gives cells pointed Fine fine limit tests b calls true e h n t))
-          (λ u. statement_does s k (λ l p. ok l (in_left l (loops_in s) (loops_in z) p)) b scope m u) (statement_does z k' (λ l p. ok l (in_right l (loops_in s) (loops_in z) p)) b scope xs.next t)
+          (λ u. statement_does s k (λ l p. ok l (in_left l (loops_in s) (loops_in z) p)) b scope m u) (statement_does z k' (λ l p. ok l (in_right l (loops_in s) (loops_in z) p)) b scope xs.next t))
       statement_does (tree.While l named e s) (h, is, k) ok b scope n t =
           let m = (condition n e).next in
           loop_does l (ok l (inl refl)) back (λ c. while_turn (value tree_at c e) (act tree_at c s)) (join (condition n e).nodes (more (Do (action.Unless (condition n e).operand 0)) (statement cells scope m s).nodes)) t

@@ -38,6 +38,10 @@ as_block p = part p.next (more (Block p.nodes) none)
 abbrev pub as_loop : ℕ → Part → Part
 as_loop l p = part p.next (more (Loop l p.nodes) none)
 
+-- the first side of a choice, which jumps over the second
+abbrev pub first_side : Part → Part
+first_side p = as_block (followed p (λ k. part k (only (Goto 1))))
+
 -- ---- declarations
 
 -- each cell without an initialiser takes a choice, or is Invalid
@@ -73,9 +77,8 @@ abbrev mutual
   statement cells scope n (tree.Label l) = part n none
   statement cells scope n (tree.Evaluate e) = using (expression n e) (λ m a. part m none)
   statement cells scope n (tree.If e s) = as_block (guard (condition n e) (λ m. statement cells scope m s))
-  -- the first side jumps over the second
   statement cells scope n (tree.IfElse e s t) =
-      as_block (followed (as_block (followed (guard (condition n e) (λ m. statement cells scope m s)) (λ k. part k (only (Goto 1))))) (λ m. statement cells scope m t))
+      as_block (followed (first_side (guard (condition n e) (λ m. statement cells scope m s))) (λ m. statement cells scope m t))
   statement cells scope n (tree.While l named e s) = as_block (as_loop l (guard (condition n e) (λ m. statement cells scope m s)))
   -- `return` of `main`: what is in scope dies, and the execution ends
   statement cells scope n (tree.Return e) = using (expression n e) (λ m a. part m (join (deads scope) (only End)))

@@ -18,8 +18,11 @@ decreases-guarded l = 4 * size (checked_tree l.s.now) + 1
 abbrev pub decreases-one_side : goal.decreases-one_side
 decreases-one_side l = 4 * size (checked_tree l.s.now) + 2
 
+abbrev pub decreases-first_side : goal.decreases-first_side
+decreases-first_side l = 4 * size (checked_tree l.s.now) + 2
+
 abbrev pub decreases-two_sides : goal.decreases-two_sides
-decreases-two_sides l = 4 * (size (checked_tree l.s.now) + size (checked_tree l.t.now)) + 2
+decreases-two_sides l = 4 * (size (checked_tree l.s.now) + size (checked_tree l.t.now)) + 3
 
 abbrev pub decreases-repeat : goal.decreases-repeat
 decreases-repeat l = 4 * size (checked_tree l.s.now) + 2
