@@ -90,6 +90,9 @@ abbrev mutual
 abbrev pub guarded : Layout → List ℕ → ℕ → TypedTree → CheckedTree → Part
 guarded cells scope n e s = guard (condition n e) (λ m. statement cells scope m s)
 
+abbrev pub both_sides : Layout → List ℕ → ℕ → TypedTree → CheckedTree → CheckedTree → Part
+both_sides cells scope n e s t = followed (first_side (guarded cells scope n e s)) (λ m. statement cells scope m t)
+
 -- no object has more cells than a program may have
 abbrev pub HaveFewCells : ProgramTree → Type 0
 HaveFewCells p = (o : ℕ) → length (cells_of p o) ≤ 65536

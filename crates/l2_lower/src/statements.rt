@@ -10,7 +10,7 @@ ghost use Rattle.l2_meaning.specs.Execution.{cells_of};
 ghost use Rattle.l2_meaning.specs.Lawful.{IsInteger, IsTyped, IsTypedStatement, AreTyped, main_result};
 ghost use Rattle.l2_meaning.specs.Meaning.{declared};
 ghost use Rattle.l2_lower.specs.Emitting.{cell, only, expression};
-ghost use Rattle.l2_lower.specs.Statements.{filled, declaration, initialised, deads, first_side, guarded, statement, statements};
+ghost use Rattle.l2_lower.specs.Statements.{filled, declaration, initialised, deads, first_side, both_sides, guarded, statement, statements};
 ghost use Rattle.l2_lower.specs.Output.{output, Emits, Anything};
 ghost use Rattle.l2_lower.specs.declared.error.LowerError.TheVariants.{NoMemory};
 ghost use Rattle.l2_meaning.specs.Scopes.{behind};
@@ -398,9 +398,33 @@ fn two_sides(
     ensures scope { IfOk result (λ u. scope.new.items ≡ scope.old.items) }
 {
     let mut both = Vec::new(alloc);
-    first_side(alloc, p, &mut both, at, scope, e, s)?;
-    statement(alloc, p, &mut both, at, scope, t)?;
+    both_sides(alloc, p, &mut both, at, scope, e, s, t)?;
     push_block(out, both)
+}
+
+/// The first side of a choice, and the second.
+#[cycle(statements)]
+#[tactic(auto, using(crate::proofs::Outputs::statements))]
+fn both_sides(
+    alloc: Global,
+    p: &Program,
+    out: &mut Vec<Item>,
+    at: &mut Counts,
+    scope: &mut Vec<u32>,
+    e: &Typed,
+    s: &Checked,
+    t: &Checked,
+) -> Result<(), LowerError>
+    requires few { HaveFewCells (program_tree p.now) }
+    requires test { IsTyped (cells_of (program_tree p.now)) (typed_tree e.now) }
+    requires integer { IsInteger (type_of (typed_tree e.now)) }
+    requires first { IsTypedStatement (cells_of (program_tree p.now)) main_result (checked_tree s.now) }
+    requires second { IsTypedStatement (cells_of (program_tree p.now)) main_result (checked_tree t.now) }
+    ensures emits { Emits (both_sides (cells_of (program_tree p.now)) scope.old.items at.old.next (typed_tree e.now) (checked_tree s.now) (checked_tree t.now)).nodes (both_sides (cells_of (program_tree p.now)) scope.old.items at.old.next (typed_tree e.now) (checked_tree s.now) (checked_tree t.now)).next Anything (output out.old.items at.old) (output out.new.items at.new) result }
+    ensures scope { IfOk result (λ u. scope.new.items ≡ scope.old.items) }
+{
+    first_side(alloc, p, out, at, scope, e, s)?;
+    statement(alloc, p, out, at, scope, t)
 }
 
 /// The first side of a choice, which jumps over the second.

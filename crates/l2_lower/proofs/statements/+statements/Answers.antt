@@ -6,6 +6,7 @@ use Rattle.l2_program.specs.Programs.{program_tree}
 use Rattle.l2_meaning.specs.Execution.{cells_of}
 use Rattle.l2_meaning.specs.Lawful.{main_result}
 use Rattle.l2_meaning.specs.Meaning.{declared}
+use Rattle.l2_meaning.specs.Scopes.{behind}
 use Rattle.l2_lower.specs.Statements.{deads, statement, statements}
 use Rattle.l2_lower.specs.Output.{output, Emits, Anything}
 use Rattle.l2_lower.proofs.Outputs.{too_much, emits_then}
@@ -26,7 +27,7 @@ items-returns-in_err-statement-clause-emits t c =
 pub items-loop-s-preserved : goal.items-loop-s-preserved
 items-loop-s-preserved t c =
     items_step (cells_of (program_tree c.args.p.now)) (output c.args.out.now.items c.args.at.now) (statements (cells_of (program_tree c.args.p.now)) c.args.scope.now.items c.args.at.now.next (checked_trees c.args.all.now)) (output c.loop-s.out.items c.loop-s.at) (output c.statement.new.out.items c.statement.new.at) c.loop-s.scope.items c.go_behind.new.scope.items _ c.args.all.now c.loop-s.s-index c.s-item.result c.loop-s-test.true c.s-item.is
-    c.in_ok-statement.ensures.emits.1 ? c.loop-s.invariant
+    c.in_ok-statement.ensures.emits.1 (c.in_ok-go_behind.ensures.ok ∙ ap (λ z. behind z (checked_tree c.s-item.result)) c.in_ok-statement.ensures.scope) c.loop-s.invariant
 
 pub items-returns-clause-emits : goal.items-returns-clause-emits
 items-returns-clause-emits t c =

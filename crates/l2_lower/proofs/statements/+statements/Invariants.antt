@@ -10,28 +10,31 @@ use Rattle.l2_lower.proofs.Weights.{size, sizes}
 use Rattle.l2_lower.proofs.statements.+statements.Given as goal
 
 abbrev pub decreases-statement : goal.decreases-statement
-decreases-statement l = 4 * size (checked_tree l.s.now)
+decreases-statement l = 5 * size (checked_tree l.s.now)
 
 abbrev pub decreases-guarded : goal.decreases-guarded
-decreases-guarded l = 4 * size (checked_tree l.s.now) + 1
+decreases-guarded l = 5 * size (checked_tree l.s.now) + 1
 
 abbrev pub decreases-one_side : goal.decreases-one_side
-decreases-one_side l = 4 * size (checked_tree l.s.now) + 2
+decreases-one_side l = 5 * size (checked_tree l.s.now) + 2
 
 abbrev pub decreases-first_side : goal.decreases-first_side
-decreases-first_side l = 4 * size (checked_tree l.s.now) + 2
+decreases-first_side l = 5 * size (checked_tree l.s.now) + 2
+
+abbrev pub decreases-both_sides : goal.decreases-both_sides
+decreases-both_sides l = 5 * (size (checked_tree l.s.now) + size (checked_tree l.t.now)) + 3
 
 abbrev pub decreases-two_sides : goal.decreases-two_sides
-decreases-two_sides l = 4 * (size (checked_tree l.s.now) + size (checked_tree l.t.now)) + 3
+decreases-two_sides l = 5 * (size (checked_tree l.s.now) + size (checked_tree l.t.now)) + 3 + 1
 
 abbrev pub decreases-repeat : goal.decreases-repeat
-decreases-repeat l = 4 * size (checked_tree l.s.now) + 2
+decreases-repeat l = 5 * size (checked_tree l.s.now) + 2
 
 abbrev pub decreases-items : goal.decreases-items
-decreases-items l = 4 * sizes (checked_trees l.all.now) + 1
+decreases-items l = 5 * sizes (checked_trees l.all.now) + 1
 
 abbrev pub decreases-block : goal.decreases-block
-decreases-block l = 4 * sizes (checked_trees l.all.now) + 2
+decreases-block l = 5 * sizes (checked_trees l.all.now) + 2
 
 abbrev pub invariant-items-loop-s : goal.invariant-items-loop-s
 invariant-items-loop-s l =
