@@ -1,6 +1,6 @@
 -- What is emitted one after another, as one.
 use Rattle.std.proofs.Common.{◌≡◌, ℕ, ◌+◌, ℤ, pos, not, List, [], ◌∷◌, ◌++◌, Option, Some, None, refl, sym, ap, subst, ◌∙◌, arith}
-use Rattle.std.specs.Prelude.{Result, Ok, Err, ◌≢◌, ◌<◌}
+use Rattle.std.specs.Prelude.{Result, Ok, Err, IfOk, IfErr, ◌≢◌, ◌<◌}
 use Rattle.std.specs.Result.{IsErr, IsErrAnd}
 use Rattle.std.specs.Option.{unwrap_or}
 use Rattle.l2_bits.specs.declared.types.Ty.{Ty}
@@ -18,12 +18,13 @@ use Rattle.l2_meaning.proofs.Numbers.{zero_value}
 use Rattle.l2_program.proofs.Trees.{checked_tree-Block}
 use Rattle.l2_lower.specs.Emitting.{Emitted, Part, part, or_zero, computed}
 use Rattle.l2_code.specs.declared.code.Item.{Item}
-use Rattle.l2_code.specs.Trees.{Node, Nodes, none, more, join, tree_of, items_of}
+use Rattle.l2_code.specs.Trees.{Node, Block, Nodes, none, more, join, tree_of, items_of}
 use Rattle.l2_code.specs.Sizes.{node_count, instructions}
 use Rattle.l2_code.proofs.Items.{items_of-join, join-none, join-join}
 use Rattle.l2_lower.specs.declared.error.LowerError.{LowerError}
 use Rattle.l2_lower.specs.declared.error.LowerError.TheVariants.{NoMemory}
-use Rattle.l2_lower.specs.Output.{Output, with_nodes, Emits, most_instructions}
+use Rattle.l2_lower.specs.Output.{Output, Counts, Anything, output, with_nodes, Emits, most_instructions}
+use Rattle.l2_lower.specs.Statements.{as_block}
 
 pub instructions-join : (xs ys : Nodes) → instructions (join xs ys) ≡ instructions xs + instructions ys
 instructions-join none ys = omega arith
@@ -102,3 +103,26 @@ pub ruleset statements = (instructions-join, items_of-join, join-none, join-join
 pub emits_then : {A : Type 0} (Q : A → Type 0) (old mid new : Output) (xs ys : Nodes) (n k : ℕ) (r : Result A LowerError) → mid ≡ with_nodes old xs n → Emits ys k Q mid new r → Emits (join xs ys) k Q old new r
 emits_then Q old mid new xs ys n k (Ok a) e (p, q) = (p, q ∙ ap (λ o. with_nodes o ys k) e ∙ with_twice old xs ys n k)
 emits_then Q old mid new xs ys n k (Err f) e m = λ u. let t = m u in let c = ap (λ o. o.count) e in let j = instructions-join xs ys in omega arith
+
+-- ---- blocks
+
+-- items of their own become one item
+pub block_pushed : (x : Part) (old inner0 : List Item) (at0 : Counts) (inner new : List Item) (at1 : Counts) (r : Result (Unit {0}) LowerError) → inner0 ≡ [] → output inner at1 ≡ with_nodes (output inner0 at0) x.nodes x.next →
+    IfOk r (λ u. items_of new ≡ join (items_of old) (more (Block (items_of inner)) none)) → IfErr r (λ e. e ≡ NoMemory) → Emits (as_block x).nodes x.next Anything (output old at0) (output new at1) r
+block_pushed x old inner0 at0 inner new at1 (Ok u) z e h k = (tt, λ i. record { nodes = all i; next = next i; count = counted i }) where
+  inside : items_of inner ≡ x.nodes
+  inside = ap (λ o. o.nodes) e ∙ ap (λ xs. join (items_of xs) x.nodes) z
+
+  all : items_of new ≡ join (items_of old) (more (Block x.nodes) none)
+  all = h ∙ ap (λ xs. join (items_of old) (more (Block xs) none)) inside
+
+  next : at1.next ≡ x.next
+  next = ap (λ o. o.next) e
+
+  counted : at1.count ≡ at0.count + (instructions x.nodes + 0)
+  counted = let c = ap (λ o. o.count) e in omega arith
+block_pushed x old inner0 at0 inner new at1 (Err f) z e h k = λ u. absurd (u k)
+
+pub block_fails : {B : Type 0} (Q : B → Type 0) (x : Part) (old : List Item) (at0 : Counts) (new : Output) (f : LowerError) (r : Result B LowerError) → IsErr r → IsErrAnd r (λ g. g ≡ f) → (f ≢ NoMemory → most_instructions < at0.count + instructions x.nodes) → Emits (as_block x).nodes x.next Q (output old at0) new r
+block_fails Q x old at0 new f (Ok v) h e m = cc
+block_fails Q x old at0 new f (Err g) h e m = subst (λ y. y ≢ NoMemory → most_instructions < at0.count + (instructions x.nodes + 0)) (sym e) (λ u. let t = m u in omega arith)

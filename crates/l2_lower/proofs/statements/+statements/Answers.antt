@@ -55,3 +55,9 @@ statement-returns-in-Block-clause-emits t c =
     let new = output c.block.new.out.items c.block.new.at in
     let so = λ (x : tree.CheckedTree). Emits (statement cells c.args.scope.now.items c.args.at.now.next x).nodes (statement cells c.args.scope.now.items c.args.at.now.next x).next Anything old new c.block.result in
     subst (λ x. so (checked_tree x)) (sym c.in-Block.is) (subst so (sym (checked_tree-Block c.in-Block.all)) (subst (λ xs. so (tree.Block (checked_trees xs))) c.deref.ensures.value c.block.ensures.emits))
+
+pub two_sides-returns-in_err-both_sides-clause-emits : goal.two_sides-returns-in_err-both_sides-clause-emits
+two_sides-returns-in_err-both_sides-clause-emits t c = ?
+
+pub two_sides-returns-clause-emits : goal.two_sides-returns-clause-emits
+two_sides-returns-clause-emits t c = ?
