@@ -1,5 +1,5 @@
 use Rattle.std.proofs.Common.{rules, ◌≡◌, ◌≢◌, ◌+◌, ◌<◌, drop, subst, sym, ap, ◌∙◌, arith}
-use Rattle.l2_program.specs.Checked.{checked_tree, checked_trees}
+use Rattle.l2_program.specs.Checked.{typed_tree, checked_tree, checked_trees}
 use Rattle.l2_program.specs.Checked as tree
 use Rattle.l2_program.proofs.Trees.{checked_tree-Block}
 use Rattle.l2_program.specs.Programs.{program_tree}
@@ -7,9 +7,9 @@ use Rattle.l2_meaning.specs.Execution.{cells_of}
 use Rattle.l2_meaning.specs.Lawful.{main_result}
 use Rattle.l2_meaning.specs.Meaning.{declared}
 use Rattle.l2_meaning.specs.Scopes.{behind}
-use Rattle.l2_lower.specs.Statements.{deads, statement, statements}
+use Rattle.l2_lower.specs.Statements.{deads, both_sides, statement, statements}
 use Rattle.l2_lower.specs.Output.{output, Emits, Anything}
-use Rattle.l2_lower.proofs.Outputs.{too_much, emits_then}
+use Rattle.l2_lower.proofs.Outputs.{too_much, emits_then, block_pushed, block_fails}
 use Rattle.l2_lower.proofs.Weights.{size_at, typed_at}
 use Rattle.l2_lower.proofs.Lists.{items_step, items_end, items_fail}
 use Rattle.l2_lower.proofs.statements.+statements.Goals as goal
@@ -57,7 +57,11 @@ statement-returns-in-Block-clause-emits t c =
     subst (λ x. so (checked_tree x)) (sym c.in-Block.is) (subst so (sym (checked_tree-Block c.in-Block.all)) (subst (λ xs. so (tree.Block (checked_trees xs))) c.deref.ensures.value c.block.ensures.emits))
 
 pub two_sides-returns-in_err-both_sides-clause-emits : goal.two_sides-returns-in_err-both_sides-clause-emits
-two_sides-returns-in_err-both_sides-clause-emits t c = ?
+two_sides-returns-in_err-both_sides-clause-emits t c =
+    let x = both_sides (cells_of (program_tree c.args.p.now)) c.args.scope.now.items c.args.at.now.next (typed_tree c.args.e.now) (checked_tree c.args.s.now) (checked_tree c.args.t.now) in
+    block_fails _ x c.args.out.now.items c.args.at.now (output c.args.out.now.items c.both_sides.new.at) c.in_err-both_sides.field-0.0 c.from_residual.result c.from_residual.ensures.0 c.from_residual.ensures.1 c.in_err-both_sides.ensures.emits
 
 pub two_sides-returns-clause-emits : goal.two_sides-returns-clause-emits
-two_sides-returns-clause-emits t c = ?
+two_sides-returns-clause-emits t c =
+    let x = both_sides (cells_of (program_tree c.args.p.now)) c.args.scope.now.items c.args.at.now.next (typed_tree c.args.e.now) (checked_tree c.args.s.now) (checked_tree c.args.t.now) in
+    block_pushed x c.args.out.now.items c.new-both.result.items c.args.at.now c.both_sides.new.out.items c.push_block.new.out.items c.both_sides.new.at c.push_block.result c.new-both.ensures.items c.in_ok-both_sides.ensures.emits.1 c.push_block.ensures.ok c.push_block.ensures.err
