@@ -16,7 +16,8 @@ use Rattle.l2_meaning.specs.Scopes.{behind}
 use Rattle.l2_code.specs.declared.action.Action.TheVariants.{Dead}
 use Rattle.l2_code.specs.Trees as code
 use Rattle.l2_lower.specs.Emitting.{only, Part, part}
-use Rattle.l2_lower.specs.Statements.{filled, deads, statement, statements}
+use Rattle.l2_lower.specs.Statements.{filled, declaration, deads, statement, statements}
+use Rattle.l2_lower.specs.Code.{declarations}
 use Rattle.l2_lower.specs.Output.{Output, with_nodes, Emits, most_instructions}
 use Rattle.l2_lower.proofs.Outputs.{Leaves, leaves_less, leaves_none, leaves_too_much}
 
@@ -132,3 +133,20 @@ items_fail Q cells old whole now new scope all i s f r h is x y inv m =
     let first = statement cells scope now.next (checked_tree s) in
     let later = statements cells (behind scope (checked_tree s)) first.next (checked_trees (drop (i + 1) all)) in
     leaves_too_much Q old whole now new first.nodes later.nodes later.next f r x y (first_item (λ ts. Leaves old whole now (statements cells scope now.next ts)) all i s h is inv) m
+
+-- ---- parameters
+
+abbrev pub Declares : Layout → Output → Part → Output → List ℕ → Type 0
+Declares cells old whole now rest = Leaves old whole now (declarations cells now.next rest)
+
+pub declare_step : (cells : Layout) (old : Output) (whole : Part) (now new : Output) (all : List ℕ) (i o : ℕ) → i < length all → o ≡ get_or all i o → new ≡ with_nodes now (declaration cells now.next o).nodes (declaration cells now.next o).next →
+    Declares cells old whole now (drop i all) → Declares cells old whole new (drop (i + 1) all)
+declare_step cells old whole now new all i o h is e inv =
+    let rest = drop (i + 1) all in
+    let first = declaration cells now.next o in
+    let later = declarations cells first.next rest in
+    subst (λ k. Leaves old whole new (declarations cells k rest)) (sym (ap (λ o. o.next) e))
+    (leaves_less old whole now new first.nodes later.nodes first.next later.next e (subst (λ xs. Leaves old whole now (declarations cells now.next xs)) (drop_more all i o h ∙ ap (λ x. x ∷ rest) (sym is)) inv))
+
+pub declare_end : (cells : Layout) (old : Output) (whole : Part) (now : Output) (all : List ℕ) (i : ℕ) → length all ≤ i → Declares cells old whole now (drop i all) → now ≡ with_nodes old whole.nodes whole.next
+declare_end cells old whole now all i h inv = leaves_none old whole now now.next refl (subst (λ xs. Declares cells old whole now xs) (drop_all i all h) inv)

@@ -92,12 +92,12 @@ module _ (cells : Layout) (Fine : End → Type 0) where
     after_body os (Jumping l) w p = absurd p
 
     pub main_does : (f : FunctionTree) → IsTypedStatement cells result f.body → ((l : ℕ) → IsIn l (loops_in f.body) → AreFine cells Fine l) →
-        Matches cells Fine {A = Unit {0}} Never (and_then (and_then (declare_all tree_here f.parameters) (λ u. act tree_here true f.body)) (λ e. over (Over Ended))) (nodes code_here true (main_code cells (Some f)).nodes no_temps)
+        Matches cells Fine {A = Unit {0}} Never (and_then (and_then (declare_all tree_here f.parameters) (λ u. act tree_here true f.body)) (λ e. over (Over Ended))) (nodes code_here true (main_code cells 1 (Some f)).nodes no_temps)
     main_does f h ok =
         let d = declarations cells 1 f.parameters in
         let s = statement cells f.parameters d.next f.body in
         let last = join (deads f.parameters) (only EndOf) in
-        subst (λ (r : Run (Unit {0})). Matches cells Fine {A = Unit {0}} Never r (nodes code_here true (main_code cells (Some f)).nodes no_temps)) (sym (λ i s. assoc_at (declare_all tree_here f.parameters s) (λ u. act tree_here true f.body) (λ e. over (Over Ended)) i))
+        subst (λ (r : Run (Unit {0})). Matches cells Fine {A = Unit {0}} Never r (nodes code_here true (main_code cells 1 (Some f)).nodes no_temps)) (sym (λ i s. assoc_at (declare_all tree_here f.parameters s) (λ u. act tree_here true f.body) (λ e. over (Over Ended)) i))
         (join_matches code_here true cells Fine d.nodes (join s.nodes last) no_temps (declare_all tree_here f.parameters) _ (all_declared f.parameters 1 no_temps)
         (behind_declared (join s.nodes last) (and_then (act tree_here true f.body) (λ e. over (Over Ended)))
         (λ t. join_matches code_here true cells Fine s.nodes last t (act tree_here true f.body) _ (statement_does cells pointed Fine fine limit tests calls result back f.body h ok true f.parameters d.next t) (after_body f.parameters))))
@@ -107,7 +107,7 @@ module _ (cells : Layout) (Fine : End → Type 0) where
 module _ (Fine : End → Type 0) (fine : (o : Outcome) → Fine (Over o)) (p : ProgramTree) (lawful : IsLawful p) (limit : Limit) (tests : Tests) (back : StartsAlike (cells_of p) Fine limit) (ok : (l : ℕ) → IsIn l (loops_in lawful.main_function.body) → AreFine (cells_of p) Fine l) where
   -- the run of the code, over the program's own types
   abbrev plain_run : Option FunctionTree → Run (Unit {0})
-  plain_run f = and_then (nodes (record { limit = limit; tests = tests; types = record { objects = cells_of p; pointed = λ n. pointed_cells (at_number [] n) } }) true (main_code (cells_of p) f).nodes no_temps) (λ w. stop)
+  plain_run f = and_then (nodes (record { limit = limit; tests = tests; types = record { objects = cells_of p; pointed = λ n. pointed_cells (at_number [] n) } }) true (main_code (cells_of p) 1 f).nodes no_temps) (λ w. stop)
 
   run_is : run_code (code p) limit tests ≡ plain_run (main_among p.names p.functions)
   run_is = ap (λ (types : Types). and_then {B = Unit {0}} (nodes (record { limit = limit; tests = tests; types = types }) true (code p).body no_temps) (λ w. stop)) (program_types p)

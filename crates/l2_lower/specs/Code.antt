@@ -43,10 +43,14 @@ abbrev pub declarations : Layout → ℕ → List ℕ → Part
 declarations cells n [] = part n none
 declarations cells n (o ∷ os) = followed (declaration cells n o) (λ m. declarations cells m os)
 
-abbrev pub main_code : Layout → Option FunctionTree → Part
-main_code cells None = part 1 (only End)
-main_code cells (Some f) =
-    followed (declarations cells 1 f.parameters) (λ n. followed (statement cells f.parameters n f.body) (λ m. part m (join (deads f.parameters) (only End))))
+-- the body, and what is behind it
+abbrev pub body_code : Layout → ℕ → FunctionTree → Part
+body_code cells n f = followed (statement cells f.parameters n f.body) (λ m. part m (join (deads f.parameters) (only End)))
+
+-- from this temporary on
+abbrev pub main_code : Layout → ℕ → Option FunctionTree → Part
+main_code cells n None = part n (only End)
+main_code cells n (Some f) = followed (declarations cells n f.parameters) (λ m. body_code cells m f)
 
 abbrev pub code : ProgramTree → CodeTree
 code p = record {
@@ -54,6 +58,6 @@ code p = record {
   pointed = [];
   checks = map code_check p.checks;
   loops = map code_loop p.loops;
-  temps = (main_code (cells_of p) (main_among p.names p.functions)).next - 1;
-  body = (main_code (cells_of p) (main_among p.names p.functions)).nodes;
+  temps = (main_code (cells_of p) 1 (main_among p.names p.functions)).next - 1;
+  body = (main_code (cells_of p) 1 (main_among p.names p.functions)).nodes;
 }

@@ -6,7 +6,11 @@ mod emitter;
 mod error;
 mod expressions;
 pub mod laws;
+mod lowering;
+mod mains;
 mod operands;
 mod statements;
+mod tables;
 
 pub use error::LowerError;
+pub use lowering::lower;
