@@ -11,3 +11,4 @@ pub mod Outputs
 pub mod Weights
 pub mod OperandTypes
 pub mod Lists
+pub mod MainCode

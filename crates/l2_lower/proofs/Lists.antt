@@ -139,14 +139,24 @@ items_fail Q cells old whole now new scope all i s f r h is x y inv m =
 abbrev pub Declares : Layout → Output → Part → Output → List ℕ → Type 0
 Declares cells old whole now rest = Leaves old whole now (declarations cells now.next rest)
 
-pub declare_step : (cells : Layout) (old : Output) (whole : Part) (now new : Output) (all : List ℕ) (i o : ℕ) → i < length all → o ≡ get_or all i o → new ≡ with_nodes now (declaration cells now.next o).nodes (declaration cells now.next o).next →
+declare_first : (cells : Layout) (n : ℕ) (all : List ℕ) (i d : ℕ) → i < length all → declarations cells n (drop i all) ≡ declarations cells n (get_or all i d ∷ drop (i + 1) all)
+declare_first cells n all i d h = ap (declarations cells n) (drop_more all i d h)
+
+pub declare_step : (cells : Layout) (old : Output) (whole : Part) (now new : Output) (all : List ℕ) (i d : ℕ) → i < length all → new ≡ with_nodes now (declaration cells now.next (get_or all i d)).nodes (declaration cells now.next (get_or all i d)).next →
     Declares cells old whole now (drop i all) → Declares cells old whole new (drop (i + 1) all)
-declare_step cells old whole now new all i o h is e inv =
+declare_step cells old whole now new all i d h e inv =
     let rest = drop (i + 1) all in
-    let first = declaration cells now.next o in
+    let first = declaration cells now.next (get_or all i d) in
     let later = declarations cells first.next rest in
     subst (λ k. Leaves old whole new (declarations cells k rest)) (sym (ap (λ o. o.next) e))
-    (leaves_less old whole now new first.nodes later.nodes first.next later.next e (subst (λ xs. Leaves old whole now (declarations cells now.next xs)) (drop_more all i o h ∙ ap (λ x. x ∷ rest) (sym is)) inv))
+    (leaves_less old whole now new first.nodes later.nodes first.next later.next e (subst (λ p. Leaves old whole now p) (declare_first cells now.next all i d h) inv))
+
+pub declare_fails : {B : Type 0} (Q : B → Type 0) (cells : Layout) (old : Output) (whole : Part) (now new : Output) (all : List ℕ) (i d : ℕ) (f : LowerError) (r : Result B LowerError) → i < length all → IsErr r → IsErrAnd r (λ g. g ≡ f) →
+    Declares cells old whole now (drop i all) → (f ≢ NoMemory → most_instructions < now.count + instructions (declaration cells now.next (get_or all i d)).nodes) → Emits whole.nodes whole.next Q old new r
+declare_fails Q cells old whole now new all i d f r h x y inv m =
+    let first = declaration cells now.next (get_or all i d) in
+    let later = declarations cells first.next (drop (i + 1) all) in
+    leaves_too_much Q old whole now new first.nodes later.nodes later.next f r x y (subst (λ p. Leaves old whole now p) (declare_first cells now.next all i d h) inv) m
 
 pub declare_end : (cells : Layout) (old : Output) (whole : Part) (now : Output) (all : List ℕ) (i : ℕ) → length all ≤ i → Declares cells old whole now (drop i all) → now ≡ with_nodes old whole.nodes whole.next
 declare_end cells old whole now all i h inv = leaves_none old whole now now.next refl (subst (λ xs. Declares cells old whole now xs) (drop_all i all h) inv)

@@ -1,5 +1,5 @@
 // What is emitted.
-ghost use Rattle.std.specs.Prelude.{◌≡◌, ◌≤◌, suc, IfOk, IfErr};
+ghost use Rattle.std.specs.Prelude.{◌≡◌, ◌≤◌, ◌-◌, suc, IfOk, IfErr};
 ghost use Rattle.l2_code.specs.declared.action.Operand.TheVariants.{Temp};
 ghost use Rattle.l2_code.specs.declared.action.Action.TheVariants as action;
 ghost use Rattle.l2_code.specs.Trees.{none, more, tree_of};
@@ -44,11 +44,11 @@ impl Counts {
         Counts { next: 1, count: 0 }
     }
 
-    /// The number of the temporary that comes next.
-    pub fn next(&self) -> u32
-        ensures { result ≡ self.now.next }
+    /// How many temporaries there are, where there were none at first.
+    pub fn temps(&self) -> u32
+        ensures { result ≡ self.now.next - 1 }
     {
-        self.next
+        self.next.saturating_sub(1)
     }
 
     /// One instruction more.
