@@ -46,7 +46,8 @@ impl Counts {
 
     /// How many temporaries there are, where there were none at first.
     pub fn temps(&self) -> u32
-        ensures { result ≡ self.now.next - 1 }
+        ensures is { result ≡ self.now.next - 1 }
+        ensures few { self.now.count ≤ 65536 }
     {
         self.next.saturating_sub(1)
     }
