@@ -1,26 +1,24 @@
 -- Computations in code lead on to temporaries where the operand holds what is computed.
-use Rattle.std.proofs.Common.{◌≡◌, ℕ, zero, suc, ◌<◌, ◌≤◌, ℤ, pos, Bool, true, false, not, cond, eqb, List, [], ◌∷◌, Option, Some, None, refl, sym, ap, subst, ◌∙◌, arith}
-use Rattle.std.specs.Prelude.{◌==◌, nat_eq, if◌then◌else◌, ◌&&◌}
+use Rattle.std.proofs.Common.{◌≡◌, ℕ, ◌<◌, ◌≤◌, ℤ, Bool, true, false, not, Option, Some, refl, ap, ◌∙◌, arith}
 use Rattle.std.proofs.lemmas.Bool.Decides.{nat_tests}
 use Rattle.l2_bits.specs.declared.types.Ty.{Ty}
 use Rattle.l2_bits.specs.declared.operators.Op.{Op}
 use Rattle.l2_bits.specs.Operators.{convert, overflows}
 use Rattle.l2_runs.specs.declared.cells.CellValue.{CellValue}
 use Rattle.l2_runs.specs.declared.cells.CellValue.TheVariants.{Number}
-use Rattle.l2_runs.specs.Operators.{truth, is_zero}
-use Rattle.l2_runs.specs.Runs.{State, Result, Go, Halt, Run, on_go, and_then, done}
+use Rattle.l2_runs.specs.Operators.{truth}
+use Rattle.l2_runs.specs.Runs.{State, Go, on_go, done}
 use Rattle.l2_code.specs.declared.action.Operator.{Operator}
 use Rattle.l2_code.specs.declared.action.Operand.{Operand}
 use Rattle.l2_code.specs.declared.action.Operand.TheVariants.{Constant, Temp}
-use Rattle.l2_code.specs.declared.action.Test.{Test}
 use Rattle.l2_code.specs.declared.action.Test.TheVariants as test
 use Rattle.l2_code.specs.declared.action.Computation.{Computation}
-use Rattle.l2_code.specs.declared.action.Computation.TheVariants.{Numbers, Convert, Move, Pointers, Passes}
+use Rattle.l2_code.specs.declared.action.Computation.TheVariants.{Numbers, Convert, Passes}
 use Rattle.l2_code.specs.declared.action.Action.TheVariants.{Compute}
-use Rattle.l2_code.specs.Trees.{Node, Nodes, none, more}
-use Rattle.l2_code.specs.Values.{Types, Temps, no_temps, with_temp, operand_value, operate, as_number, on_numbers, converted, is_true, are_numbers, compute}
-use Rattle.l2_code.specs.Machine.{Setting, Way, On, Out, or_stuck, follow, node, nodes}
-use Rattle.l2_lower.specs.Emitting.{only, Emitted, nothing, result, or_zero, no_types, computed}
+use Rattle.l2_code.specs.Trees.{none}
+use Rattle.l2_code.specs.Values.{Temps, with_temp, operand_value, operate, as_number, on_numbers, converted, is_true, are_numbers, compute}
+use Rattle.l2_code.specs.Machine.{Setting, On, or_stuck, follow, nodes}
+use Rattle.l2_lower.specs.Emitting.{Emitted, nothing, result, or_zero, computed}
 
 pub with_temp_same : (t : Temps) (n : ℕ) (v : CellValue) → with_temp t n v n ≡ v
 with_temp_same t n v = grind (arith, nat_tests)

@@ -1,14 +1,12 @@
 -- Executions of a program and of its code are the same.
-use Rattle.std.proofs.Common.{◌≡◌, ℕ, zero, suc, ◌-◌, ◌+◌, ℤ, Bool, true, false, List, [], ◌∷◌, length, take, drop, map, refl, sym, ap, subst, ◌∙◌}
+use Rattle.std.proofs.Common.{◌≡◌, ℕ, ◌-◌, ◌+◌, ℤ, Bool, true, false, List, [], ◌∷◌, length, take, drop, map, refl, sym, ap, ◌∙◌}
 use Rattle.std.specs.Prelude.{if◌then◌else◌, ◌||◌}
 use Rattle.l2_syntax.specs.declared.token.Name.{Name}
-use Rattle.l2_runs.specs.declared.outcome.Outcome.{Outcome}
 use Rattle.l2_runs.specs.declared.outcome.Outcome.TheVariants.{Ended, Stopped, Broken, OutOfChoices, OutOfTurns}
-use Rattle.l2_runs.specs.Store.{Object, Store}
 use Rattle.l2_runs.specs.Fits.{Layout, StoreFits}
-use Rattle.l2_runs.specs.Runs.{State, End, Over, Fallen, Result, Go, Halt, Run}
+use Rattle.l2_runs.specs.Runs.{State, End, Over, Fallen, Result, Go, Halt}
 use Rattle.l2_runs.specs.Loops.{Limit, Real, Short, Cut, Tests}
-use Rattle.l2_runs.specs.Keeps.{ResultFits, Keeps, Anything, LimitKeeps}
+use Rattle.l2_runs.specs.Keeps.{ResultFits, Anything, LimitKeeps}
 use Rattle.l2_program.specs.declared.program.ObjectInfo.{ObjectInfo}
 use Rattle.l2_program.specs.declared.program.StaticValue.{StaticValue}
 use Rattle.l2_program.specs.Programs.{ProgramTree}
@@ -16,11 +14,11 @@ use Rattle.l2_meaning.specs.Execution.{Execution, report, exec, first_objects, s
 use Rattle.l2_meaning.specs.Execution as meaning
 use Rattle.l2_meaning.specs.Lawful.{IsLawful, IsCheckOf}
 use Rattle.l2_meaning.proofs.Starts as starts
-use Rattle.l2_code.specs.Modes.{first_object, first_store, start, run_code}
+use Rattle.l2_code.specs.Modes.{first_object, first_store, run_code}
 use Rattle.l2_lower.specs.Alike.{AreUsedAlike, AreAlike, Agree, end_of, state_of, exec_code}
 use Rattle.l2_lower.specs.Code.{code_object, code_objects, code}
-use Rattle.l2_lower.proofs.Matches.{AnyTwo, Match, Matches, same_alike}
-use Rattle.l2_lower.proofs.MatchLoops.{AreFine, StartsAlike}
+use Rattle.l2_lower.proofs.Matches.{AnyTwo, Match, same_alike}
+use Rattle.l2_lower.proofs.MatchLoops.{StartsAlike}
 use Rattle.l2_lower.proofs.ProgramRuns.{run_agrees}
 
 -- ---- the start

@@ -1,5 +1,5 @@
 -- The code of an expression does what the expression does.
-use Rattle.std.proofs.Common.{◌≡◌, ℕ, zero, suc, ◌<◌, ◌≤◌, ℤ, pos, Bool, true, false, not, List, [], ◌∷◌, Option, Some, None, refl, sym, ap, subst, ◌∙◌, arith}
+use Rattle.std.proofs.Common.{◌≡◌, ℕ, zero, suc, ◌≤◌, ℤ, pos, Bool, true, false, not, List, [], ◌∷◌, Option, Some, None, refl, sym, ap, subst, ◌∙◌, arith}
 use Rattle.std.specs.Prelude.{◌==◌, ◌||◌, ◌&&◌, if◌then◌else◌, slice_get}
 use Rattle.std.specs.Ordering.{int_eq}
 use Rattle.l2_bits.specs.declared.types.Ty.{Ty}
@@ -20,7 +20,7 @@ use Rattle.l2_runs.specs.declared.operators.UnaryOperator.{UnaryOperator}
 use Rattle.l2_runs.specs.declared.operators.UnaryOperator.TheVariants.{Negate, Not}
 use Rattle.l2_runs.specs.declared.operators.BinaryOperator.{BinaryOperator}
 use Rattle.l2_runs.specs.declared.operators.BinaryOperator.TheVariants as binary_operator
-use Rattle.l2_runs.specs.Operators.{truth, is_zero, unary, binary, unary_overflows, binary_overflows}
+use Rattle.l2_runs.specs.Operators.{truth, unary, binary, unary_overflows, binary_overflows}
 use Rattle.l2_runs.specs.Fits.{Layout, CellFits, FitsAt, StoreFits}
 use Rattle.l2_runs.proofs.Stores.{fits_read, fits_cell}
 use Rattle.l2_runs.specs.Runs.{State, End, Over, Result, Go, Halt, Run, on_go, and_then, done, demand, check, choose, read, write}
@@ -36,10 +36,10 @@ use Rattle.l2_code.specs.declared.action.Operator.TheVariants as operator
 use Rattle.l2_code.specs.declared.action.Operand.{Operand}
 use Rattle.l2_code.specs.declared.action.Operand.TheVariants.{Constant, Temp}
 use Rattle.l2_code.specs.declared.action.Test.TheVariants as test
-use Rattle.l2_code.specs.declared.action.Computation.TheVariants.{Numbers, Convert, Move, Pointers, Passes}
+use Rattle.l2_code.specs.declared.action.Computation.TheVariants.{Numbers, Convert, Passes}
 use Rattle.l2_code.specs.declared.action.Action.TheVariants.{Check, Choice, Read, Write}
-use Rattle.l2_code.specs.Trees.{Node, Do, Nodes, none, more, join}
-use Rattle.l2_code.specs.Values.{Types, Temps, with_temp, operand_value, operate, is_true, same_type, is_type, cell_of}
+use Rattle.l2_code.specs.Trees.{Do, Nodes, none, more, join}
+use Rattle.l2_code.specs.Values.{Temps, with_temp, operand_value, is_true, same_type, is_type, cell_of}
 use Rattle.l2_code.specs.Machine.{Way, On, Out, follow, node, nodes}
 use Rattle.l2_code.specs.Machine as machine
 use Rattle.l2_code.proofs.Items.{join-join}
@@ -348,11 +348,11 @@ module _ (cells : Layout) (pointed : ℕ → List CellType) (Fine : End → Type
       Gives (ty ∷ []) (record { nodes = only (Write ty (cell o 0) a); operand = a; next = m }) m u (and_then (put (first_of o) v) (λ z. done v))
   assigned_at ty o types a m n t u v e e' h =
       told_matches cells Fine (λ z. v) (put_does ty o a u v e holds) given where
-    holds : Holds cells (ty ∷ []) (operand_value u a) v
-    holds = subst (λ ts. Holds cells ts (operand_value u a) v) e' h.holds
+        holds : Holds cells (ty ∷ []) (operand_value u a) v
+        holds = subst (λ ts. Holds cells ts (operand_value u a) v) e' h.holds
 
-    given : (z : Unit {0}) (w : Way) → w ≡ On u → IsGiven cells (ty ∷ []) a m m u v w
-    given z w q = subst (λ x. IsGiven cells (ty ∷ []) a m m u v x) (sym q) (record { holds = holds; stay = λ i l. refl; grows = omega arith; below = h.below })
+        given : (z : Unit {0}) (w : Way) → w ≡ On u → IsGiven cells (ty ∷ []) a m m u v w
+        given z w q = subst (λ x. IsGiven cells (ty ∷ []) a m m u v x) (sym q) (record { holds = holds; stay = λ i l. refl; grows = omega arith; below = h.below })
 
   asserted : (c : ℕ) (a : Operand) (k n : ℕ) (t : Temps) (v : Value) (w : Way) → IsTested a k n t v w → Matches cells Fine (IsGiven cells [] a k n t) (and_then (check b c (holds v)) (λ z. done [])) (follow (nodes code_here b (checked c a)) w)
   asserted zero a k n t v (On u) h = done_matches cells Fine [] (On u) (record { holds = refl; stay = h.stay; grows = h.grows; below = h.below })

@@ -1,14 +1,14 @@
 -- Items behind items do what the first and then the others do.
-use Rattle.std.proofs.Common.{◌≡◌, ℕ, zero, suc, Bool, List, [], ◌∷◌, refl, sym, ap, subst, ◌∙◌}
+use Rattle.std.proofs.Common.{◌≡◌, Bool, refl, sym, subst}
 use Rattle.l2_runs.specs.Fits.{Layout}
-use Rattle.l2_runs.specs.Runs.{State, End, Result, Go, Halt, Run, on_go, and_then, done}
+use Rattle.l2_runs.specs.Runs.{End, Result, Go, Halt, Run, on_go, and_then, done}
 use Rattle.l2_code.specs.declared.action.Action.{Action}
 use Rattle.l2_code.specs.Trees.{Node, Nodes, none, more, join}
 use Rattle.l2_code.specs.Values.{Temps}
 use Rattle.l2_code.specs.Machine.{Setting, Way, On, Out, follow, act, node, nodes}
 use Rattle.l2_lower.specs.Emitting.{only}
 use Rattle.l2_code.proofs.Joins.{nodes-join}
-use Rattle.l2_lower.proofs.Matches.{Match, Matches, then_matches}
+use Rattle.l2_lower.proofs.Matches.{Matches, then_matches}
 
 module _ {A B C : Type 0} where
   pub assoc_at : (x : Result A) (h : A → Run B) (k : B → Run C) → on_go (on_go x h) k ≡ on_go x (λ a. and_then (h a) k)

@@ -1,6 +1,6 @@
 -- What loops over lists emit, item by item.
-use Rattle.std.proofs.Common.{◌≡◌, ℕ, zero, suc, ◌+◌, ◌<◌, ◌≤◌, List, [], ◌∷◌, ◌++◌, length, get_or, drop, take, refl, sym, ap, subst, ◌∙◌, arith}
-use Rattle.std.specs.Prelude.{Result, Ok, Err, ◌≢◌}
+use Rattle.std.proofs.Common.{◌≡◌, ℕ, suc, ◌+◌, ◌<◌, ◌≤◌, List, [], ◌∷◌, ◌++◌, length, get_or, drop, refl, sym, ap, subst, ◌∙◌, arith}
+use Rattle.std.specs.Prelude.{Result, ◌≢◌}
 use Rattle.std.specs.Result.{IsErr, IsErrAnd}
 use Rattle.std.proofs.lemmas.List.{drop_more, drop_all, append_assoc}
 use Rattle.l2_runs.specs.Fits.{Layout}
@@ -53,9 +53,11 @@ abbrev pub BuriesAll : Output → ℕ → List Checked → Output → List Check
 BuriesAll old n all now rest = Leaves old (part n (deads_of all)) now (part n (deads_of rest)) × (now.next ≡ n)
 
 pub bury_all_step : (old : Output) (n : ℕ) (all : List Checked) (now new : Output) (i : ℕ) (s : Checked) → i < length all → s ≡ get_or all i s → new ≡ with_nodes now (deads (declared (more (checked_tree s) none))) now.next → BuriesAll old n all now (drop i all) → BuriesAll old n all new (drop (i + 1) all)
-bury_all_step old n all now new i s h is e (inv, q) =
-    (leaves_less old (part n (deads_of all)) now new (deads (declared (more (checked_tree s) none))) (deads_of (drop (i + 1) all)) now.next n e
-    (subst (λ xs. Leaves old (part n (deads_of all)) now (part n xs)) (ap deads_of (drop_more all i s h) ∙ ap (λ x. deads_of (x ∷ drop (i + 1) all)) (sym is) ∙ one_of (checked_tree s) (checked_trees (drop (i + 1) all))) inv), ap (λ o. o.next) e ∙ q)
+bury_all_step old n all now new i s h is e (inv, q) = (
+  leaves_less old (part n (deads_of all)) now new (deads (declared (more (checked_tree s) none))) (deads_of (drop (i + 1) all)) now.next n e
+      (subst (λ xs. Leaves old (part n (deads_of all)) now (part n xs)) (ap deads_of (drop_more all i s h) ∙ ap (λ x. deads_of (x ∷ drop (i + 1) all)) (sym is) ∙ one_of (checked_tree s) (checked_trees (drop (i + 1) all))) inv),
+  ap (λ o. o.next) e ∙ q,
+)
 
 pub bury_all_end : (old : Output) (n : ℕ) (all : List Checked) (now : Output) (i : ℕ) → length all ≤ i → BuriesAll old n all now (drop i all) → now ≡ with_nodes old (deads_of all) n
 bury_all_end old n all now i h (inv, q) = leaves_none old (part n (deads_of all)) now n q (subst (λ xs. Leaves old (part n (deads_of all)) now (part n (deads_of xs))) (drop_all i all h) inv)

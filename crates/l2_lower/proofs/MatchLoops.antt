@@ -1,13 +1,13 @@
 -- Loops do the same where their turns do.
-use Rattle.std.proofs.Common.{◌≡◌, ℕ, zero, suc, ℤ, pos, Bool, true, false, List, [], ◌∷◌, Option, Some, None, refl, subst}
+use Rattle.std.proofs.Common.{◌≡◌, ℕ, zero, suc, ℤ, pos, Bool, false, List, [], ◌∷◌, Option, Some, None, refl, subst}
 use Rattle.std.specs.Ordering.{int_eq}
 use Rattle.l2_runs.specs.declared.outcome.Outcome.{Outcome}
 use Rattle.l2_runs.specs.declared.outcome.Outcome.TheVariants.{Stopped, OutOfTurns, OutOfChoices}
 use Rattle.l2_runs.specs.Store.{Store}
 use Rattle.l2_runs.specs.Fits.{Layout, StoreFits}
-use Rattle.l2_runs.specs.Runs.{State, End, Over, Fallen, Result, Go, Halt, Run, on_go, and_then, done, over, either, choose, demand}
+use Rattle.l2_runs.specs.Runs.{State, End, Over, Fallen, Run, and_then, done, either, demand}
 use Rattle.l2_runs.specs.Loops.{Limit, Real, Short, Cut, Test, Tests, Turn, events, or_events, tested, or_next, or_stop, rounds, behind, spend_of, spend, tally, copies, later_copies, limited, loop_of}
-use Rattle.l2_lower.proofs.Matches.{AnyTwo, Match, Matches, same_alike, then_match, then_matches, done_matches, over_matches, either_matches, demand_match, choose_matches}
+use Rattle.l2_lower.proofs.Matches.{AnyTwo, Match, Matches, then_match, then_matches, done_matches, over_matches, either_matches, demand_match, choose_matches}
 
 module _ (layout : Layout) (Fine : End → Type 0) where
   -- how a loop starts back does the same on both sides

@@ -1,13 +1,12 @@
 -- Two runs that do the same step by step, where each hands on values of its own.
-use Rattle.std.proofs.Common.{◌≡◌, ℕ, ℤ, Bool, true, false, List, [], ◌∷◌, refl, sym, subst}
-use Rattle.std.specs.Prelude.{◌||◌, ◌==◌}
+use Rattle.std.proofs.Common.{◌≡◌, ℕ, ℤ, Bool, true, false, List, [], ◌∷◌, refl, subst}
 use Rattle.l2_runs.specs.declared.cells.CellValue.{CellValue}
 use Rattle.l2_runs.specs.declared.outcome.Outcome.TheVariants.{Ended, Stopped, Broken, OutOfChoices, OutOfTurns}
 use Rattle.l2_runs.specs.Store.{Address}
 use Rattle.l2_runs.specs.Fits.{Layout, FitsAt, StoreFits}
-use Rattle.l2_runs.specs.Runs.{State, End, Over, Fallen, Result, Go, Halt, Run, on_go, and_then, done, over, either, take_choice, choose, write, enliven, bury, demand, check}
+use Rattle.l2_runs.specs.Runs.{State, End, Over, Fallen, Result, Go, Halt, Run, on_go, and_then, done, over, either, take_choice, choose, write, enliven, bury, demand}
 use Rattle.l2_runs.proofs.Stores.{fits_live, fits_cell}
-use Rattle.l2_lower.specs.Alike.{AreUsedAlike, AreAlike}
+use Rattle.l2_lower.specs.Alike.{AreAlike}
 
 pub same_alike : (e : End) (s : State) → AreAlike e s s
 same_alike (Over Ended) s = record { choices = refl; turns = refl; arrivals = refl }

@@ -1,35 +1,33 @@
 -- The operand of a typed expression is a temporary, or a constant of its type.
-use Rattle.std.proofs.Common.{◌≡◌, ℕ, zero, suc, ℤ, pos, Bool, true, false, not, List, [], ◌∷◌, Option, Some, None, refl, sym, ap, subst, ◌∙◌, arith}
+use Rattle.std.proofs.Common.{◌≡◌, ℕ, ℤ, pos, Bool, true, false, not, List, [], ◌∷◌, Some, refl, sym, subst, arith}
 use Rattle.std.proofs.lemmas.Int.{ints}
 use Rattle.std.specs.Ordering.{int_eq}
 use Rattle.std.specs.Prelude.{Result, Ok, Err, IfOk, if◌then◌else◌, ◌&&◌}
 use Rattle.l2_bits.specs.declared.types.Ty.{Ty}
 use Rattle.l2_bits.specs.Types.{int_type}
 use Rattle.l2_bits.specs.Values.{IsValue}
-use Rattle.l2_bits.specs.Operators.{convert}
 use Rattle.l2_bits.proofs.OperatorValues.{convert_value}
 use Rattle.l2_runs.specs.declared.cells.CellType.{CellType}
 use Rattle.l2_runs.specs.declared.cells.CellType.TheVariants.{Integer, Pointer}
-use Rattle.l2_runs.specs.declared.cells.CellValue.{CellValue}
 use Rattle.l2_runs.specs.declared.cells.CellValue.TheVariants.{Number, Null, Invalid, At}
 use Rattle.l2_runs.specs.declared.operators.UnaryOperator.{UnaryOperator}
 use Rattle.l2_runs.specs.declared.operators.UnaryOperator.TheVariants.{Negate, Not}
 use Rattle.l2_runs.specs.declared.operators.BinaryOperator.{BinaryOperator}
 use Rattle.l2_runs.specs.declared.operators.BinaryOperator.TheVariants as binary_operator
-use Rattle.l2_runs.specs.Operators.{truth, unary, binary}
-use Rattle.l2_runs.specs.Fits.{Layout, CellFits}
+use Rattle.l2_runs.specs.Operators.{truth}
+use Rattle.l2_runs.specs.Fits.{Layout}
 use Rattle.l2_program.specs.Checked as tree
 use Rattle.l2_program.specs.Checked.{TypedTree}
 use Rattle.l2_program.specs.Types.{type_of, is_computing, is_arithmetic, given}
 use Rattle.l2_meaning.specs.Lawful.{IsTyped, IsInteger}
-use Rattle.l2_meaning.proofs.Numbers.{unary_value, binary_value, zero_value}
+use Rattle.l2_meaning.proofs.Numbers.{binary_value, zero_value}
 use Rattle.l2_code.specs.declared.action.Operator.{Operator}
 use Rattle.l2_code.specs.declared.action.Operator.TheVariants as operator
 use Rattle.l2_code.specs.declared.action.Operand.{Operand}
 use Rattle.l2_code.specs.declared.action.Operand.TheVariants.{Constant, Temp}
 use Rattle.l2_code.specs.declared.action.Computation.TheVariants.{Numbers, Convert}
 use Rattle.l2_code.specs.Values.{operate, as_number, same_type}
-use Rattle.l2_lower.specs.Emitting.{Emitted, or_zero, computed, zero_number, nothing, unary_code, binary_code, conversion, expression}
+use Rattle.l2_lower.specs.Emitting.{or_zero, computed, zero_number, nothing, unary_code, binary_code, conversion, expression}
 use Rattle.l2_code.specs.Trees.{Nodes}
 use Rattle.l2_lower.specs.declared.error.LowerError.{LowerError}
 use Rattle.l2_lower.specs.Output.{Output, Emits}

@@ -1,5 +1,5 @@
 -- What is emitted one after another, as one.
-use Rattle.std.proofs.Common.{◌≡◌, ℕ, ◌+◌, ℤ, pos, not, List, [], ◌∷◌, ◌++◌, Option, Some, None, refl, sym, ap, subst, ◌∙◌, arith}
+use Rattle.std.proofs.Common.{◌≡◌, ℕ, ◌+◌, ℤ, pos, not, List, [], Option, Some, None, refl, sym, ap, subst, ◌∙◌, arith}
 use Rattle.std.specs.Prelude.{Result, Ok, Err, IfOk, IfErr, ◌≢◌, ◌<◌}
 use Rattle.std.specs.Result.{IsErr, IsErrAnd}
 use Rattle.std.specs.Option.{unwrap_or}
@@ -10,7 +10,7 @@ use Rattle.l2_runs.specs.declared.cells.CellValue.TheVariants.{Number}
 use Rattle.l2_runs.specs.Operators.{truth}
 use Rattle.l2_code.specs.declared.action.Operator.{Operator}
 use Rattle.l2_code.specs.declared.action.Operand.{Operand}
-use Rattle.l2_code.specs.declared.action.Operand.TheVariants.{Constant, Temp}
+use Rattle.l2_code.specs.declared.action.Operand.TheVariants.{Constant}
 use Rattle.l2_code.specs.declared.action.Test.TheVariants as test
 use Rattle.l2_code.specs.declared.action.Computation.TheVariants.{Numbers, Convert, Passes}
 use Rattle.l2_code.specs.Values.{operate, as_number}
@@ -18,8 +18,8 @@ use Rattle.l2_meaning.proofs.Numbers.{zero_value}
 use Rattle.l2_program.proofs.Trees.{checked_tree-Block}
 use Rattle.l2_lower.specs.Emitting.{Emitted, Part, part, or_zero, computed}
 use Rattle.l2_code.specs.declared.code.Item.{Item}
-use Rattle.l2_code.specs.Trees.{Node, Block, Nodes, none, more, join, tree_of, items_of}
-use Rattle.l2_code.specs.Sizes.{node_count, instructions}
+use Rattle.l2_code.specs.Trees.{Block, Nodes, none, more, join, items_of}
+use Rattle.l2_code.specs.Sizes.{instructions}
 use Rattle.l2_code.proofs.Items.{items_of-join, join-none, join-join}
 use Rattle.l2_lower.specs.declared.error.LowerError.{LowerError}
 use Rattle.l2_lower.specs.declared.error.LowerError.TheVariants.{NoMemory}

@@ -1,5 +1,5 @@
 -- The code of a program does what the program does.
-use Rattle.std.proofs.Common.{◌≡◌, ℕ, zero, suc, Bool, true, false, List, [], ◌∷◌, ◌++◌, Option, Some, None, length, take, drop, map, refl, sym, ap, subst, ◌∙◌, ◌⊎◌, inl, inr}
+use Rattle.std.proofs.Common.{◌≡◌, ℕ, zero, suc, Bool, true, false, List, [], ◌∷◌, Option, Some, length, take, drop, map, refl, sym, ap, subst}
 use Rattle.std.specs.Prelude.{slice_get, if◌then◌else◌}
 use Rattle.l2_syntax.specs.declared.token.Name.{Name}
 use Rattle.l2_runs.specs.declared.cells.CellType.{CellType}
@@ -7,28 +7,26 @@ use Rattle.l2_runs.specs.declared.outcome.Outcome.{Outcome}
 use Rattle.l2_runs.specs.declared.outcome.Outcome.TheVariants.{Ended}
 use Rattle.l2_runs.specs.Numbers.{at_number}
 use Rattle.l2_runs.specs.Fits.{Layout, StoreFits}
-use Rattle.l2_runs.specs.Runs.{State, End, Over, Fallen, Result, Go, Halt, Run, on_go, and_then, done, over, stop}
-use Rattle.l2_runs.specs.Loops.{Limit, Real, Short, Cut, Tests}
-use Rattle.l2_runs.specs.Keeps.{ResultFits, Keeps, Anything, LimitKeeps}
+use Rattle.l2_runs.specs.Runs.{State, End, Over, Result, Go, Halt, Run, on_go, and_then, done, over, stop}
+use Rattle.l2_runs.specs.Loops.{Limit, Tests}
 use Rattle.l2_program.specs.declared.program.ObjectInfo.{ObjectInfo}
 use Rattle.l2_program.specs.declared.program.StaticValue.{StaticValue}
 use Rattle.l2_program.specs.Names.{loops_in}
 use Rattle.l2_program.specs.Programs.{ProgramTree, FunctionTree}
 use Rattle.l2_meaning.specs.Meaning.{Calls, Setting, Ending, Next, Broke, Continued, Returned, Jumping, act}
 use Rattle.l2_meaning.specs.Execution.{known_cells, cells_of, calls_of, setting_of, declare_all, enter, run_program, main_among, value_in, first_cell}
-use Rattle.l2_meaning.specs.Lawful.{IsLawful, IsIn, IsCheckOf, IsTypedStatement}
-use Rattle.l2_code.specs.declared.code.CodeObject.{CodeObject}
+use Rattle.l2_meaning.specs.Lawful.{IsLawful, IsIn, IsTypedStatement}
 use Rattle.l2_code.specs.declared.action.Action.TheVariants.{End as EndOf}
-use Rattle.l2_code.specs.Trees.{Nodes, none, more, join}
+use Rattle.l2_code.specs.Trees.{Nodes, join}
 use Rattle.l2_code.specs.Values.{Types, Temps, no_temps}
 use Rattle.l2_code.specs.Machine.{Way, On, Out, follow, nodes}
 use Rattle.l2_code.specs.Machine as machine
 use Rattle.l2_code.specs.Modes.{object_cells, pointed_cells, types_of, run_code}
-use Rattle.l2_lower.specs.Alike.{AreAlike, Agree}
+use Rattle.l2_lower.specs.Alike.{Agree}
 use Rattle.l2_lower.specs.Emitting.{only}
 use Rattle.l2_lower.specs.Statements.{declaration, deads, statement}
 use Rattle.l2_lower.specs.Code.{code_object, code_objects, declarations, main_code, code}
-use Rattle.l2_lower.proofs.Matches.{AnyTwo, Match, Matches, then_matches, done_matches, same_alike}
+use Rattle.l2_lower.proofs.Matches.{Match, Matches, done_matches}
 use Rattle.l2_lower.proofs.MatchLoops.{AreFine, StartsAlike}
 use Rattle.l2_lower.proofs.Joins.{join_matches, assoc_at}
 use Rattle.l2_lower.proofs.StatementRuns.{Leads, GoesOn, code_at, tree_at, declared_does, ends_do, statement_does}

@@ -1,19 +1,19 @@
 -- The code of a statement does what the statement does.
-use Rattle.std.proofs.Common.{◌≡◌, ℕ, zero, suc, ◌<◌, ◌≤◌, ℤ, pos, Bool, true, false, not, List, [], ◌∷◌, ◌++◌, Option, Some, None, refl, sym, ap, subst, ◌∙◌, arith, ◌⊎◌, inl, inr}
+use Rattle.std.proofs.Common.{◌≡◌, ℕ, zero, suc, ℤ, Bool, true, false, List, [], ◌∷◌, ◌++◌, Option, Some, None, refl, sym, ap, subst, ◌∙◌, inl, inr}
 use Rattle.std.specs.Prelude.{slice_get}
 use Rattle.l2_bits.specs.declared.types.Ty.{Ty}
-use Rattle.l2_bits.specs.Values.{IsValue, wrap}
+use Rattle.l2_bits.specs.Values.{wrap}
 use Rattle.l2_bits.proofs.Wraps.{wrap_value}
 use Rattle.l2_runs.specs.declared.cells.CellType.{CellType}
 use Rattle.l2_runs.specs.declared.cells.CellType.TheVariants.{Integer, Pointer}
 use Rattle.l2_runs.specs.declared.cells.CellValue.{CellValue}
-use Rattle.l2_runs.specs.declared.cells.CellValue.TheVariants.{Number, Null, Invalid, At}
+use Rattle.l2_runs.specs.declared.cells.CellValue.TheVariants.{Number, Invalid}
 use Rattle.l2_runs.specs.declared.outcome.Outcome.{Outcome}
-use Rattle.l2_runs.specs.declared.outcome.Outcome.TheVariants.{Ended, Stopped, OutOfChoices}
-use Rattle.l2_runs.specs.Fits.{Layout, CellFits, FitsAt, StoreFits}
+use Rattle.l2_runs.specs.declared.outcome.Outcome.TheVariants.{Ended, OutOfChoices}
+use Rattle.l2_runs.specs.Fits.{Layout, CellFits}
 use Rattle.l2_runs.specs.Store.{with_live}
-use Rattle.l2_runs.specs.Runs.{State, End, Over, Fallen, Result, Go, Halt, Run, on_go, and_then, done, over, either, choose, write, enliven, bury, bury_all}
-use Rattle.l2_runs.specs.Loops.{Limit, Tests, loop_of}
+use Rattle.l2_runs.specs.Runs.{State, End, Over, Halt, Run, and_then, done, over, either, write, enliven, bury, bury_all}
+use Rattle.l2_runs.specs.Loops.{Limit, Tests}
 use Rattle.l2_runs.proofs.Stores.{from, from_next, fits_seam, fits_live}
 use Rattle.l2_program.specs.Checked as tree
 use Rattle.l2_program.specs.Checked.{TypedTree, CheckedTree, CheckedTrees}
@@ -21,7 +21,7 @@ use Rattle.l2_program.specs.Types.{type_of}
 use Rattle.l2_program.specs.Names.{loops_in, all_loops_in}
 use Rattle.l2_meaning.specs.Meaning.{Value, Ending, Next, Broke, Continued, Returned, Jumping, Calls, Setting, holds, value, put, first_of, fresh, fill, declare, declared, or_rest, to_turn, while_turn, tree_loop, act, act_all}
 use Rattle.l2_meaning.specs.Scopes as scopes
-use Rattle.l2_meaning.specs.Lawful.{IsTyped, IsInteger, IsTypedStatement, AreTyped, IsIn}
+use Rattle.l2_meaning.specs.Lawful.{IsTypedStatement, AreTyped, IsIn}
 use Rattle.l2_code.specs.declared.action.Operand.{Operand}
 use Rattle.l2_code.specs.declared.action.Operand.TheVariants.{Constant, Temp}
 use Rattle.l2_code.specs.declared.action.Action.TheVariants as action
@@ -29,15 +29,15 @@ use Rattle.l2_code.specs.Trees.{Node, Do, Block, Loop, Nodes, none, more, join}
 use Rattle.l2_code.specs.Values.{Temps, with_temp, operand_value, is_true}
 use Rattle.l2_code.specs.Machine.{Way, On, Out, follow, leave, close, code_loop, node, nodes}
 use Rattle.l2_code.specs.Machine as machine
-use Rattle.l2_lower.specs.Alike.{AreUsedAlike, AreAlike}
-use Rattle.l2_lower.specs.Emitting.{only, cell, Emitted, expression, condition}
+use Rattle.l2_lower.specs.Alike.{AreUsedAlike}
+use Rattle.l2_lower.specs.Emitting.{only, cell, expression, condition}
 use Rattle.l2_lower.specs.Statements.{filled, declaration, initialised, deads, statement, statements}
 use Rattle.l2_code.proofs.Items.{join-join}
-use Rattle.l2_lower.proofs.Matches.{AnyTwo, Match, Matches, then_match, then_matches, weaker_matches, done_matches, choose_matches, enliven_matches, bury_matches, told_matches, alone_matches}
+use Rattle.l2_lower.proofs.Matches.{Match, Matches, then_matches, weaker_matches, done_matches, choose_matches, told_matches, alone_matches}
 use Rattle.l2_lower.proofs.MatchLoops.{AreFine, StartsAlike, Turned, Left, loop_match}
-use Rattle.l2_lower.proofs.Joins.{join_is, join_matches, one_is, only_is, assoc_twice}
+use Rattle.l2_lower.proofs.Joins.{join_is, join_matches, one_is, assoc_twice}
 use Rattle.l2_lower.proofs.Computing.{with_temp_same}
-use Rattle.l2_lower.proofs.ExpressionRuns.{Holds, IsHeld, IsGiven, IsTruth, IsTested, code_here, tree_here, write_does, put_does, expression_gives, tested_by}
+use Rattle.l2_lower.proofs.ExpressionRuns.{IsGiven, IsTested, code_here, tree_here, write_does, put_does, expression_gives, tested_by}
 
 -- the cell at an offset
 from_get : {A : Type 0} (xs : List A) (f : ℕ) (t : A) (ts : List A) → from f xs ≡ t ∷ ts → slice_get xs f ≡ Some t
@@ -155,9 +155,9 @@ module _ (cells : Layout) (pointed : ℕ → List CellType) (Fine : End → Type
         Matches cells Fine T (either x r q) (nodes code_at b (more (Do (action.Unless a 0)) ys) u)
     unless_does {T = T} x a ys u r q e h k =
         subst (λ z. Matches cells Fine T (either x r q) (and_then (either z (done (On u)) (done (Out 0))) (follow (nodes code_at b ys)))) (sym e) (go x) where
-      go : (x : Bool) → Matches cells Fine T (either x r q) (and_then (either x (done (On u)) (done (Out 0))) (follow (nodes code_at b ys)))
-      go true = record { by = λ s f. h.by s f }
-      go false = record { by = λ s f. k.by s f }
+          go : (x : Bool) → Matches cells Fine T (either x r q) (and_then (either x (done (On u)) (done (Out 0))) (follow (nodes code_at b ys)))
+          go true = record { by = λ s f. h.by s f }
+          go false = record { by = λ s f. k.by s f }
 
     leaves : (t : Temps) (e : Ending) (w : Way) → InBlock e w → Leads e (leave t w)
     leaves t Next (On u) h = tt
@@ -211,9 +211,9 @@ module _ (cells : Layout) (pointed : ℕ → List CellType) (Fine : End → Type
         Matches cells Fine InBlock (either (holds v) r q) (and_then (and_then (follow (nodes code_at b (more (Do (action.Unless a 0)) (join xs (only (action.Goto 1))))) w) (λ w. done (leave t w))) (follow (nodes code_at b ys)))
     sides_do a k n t xs ys r q h h' v (On u) p =
         subst (λ z. Matches cells Fine InBlock (either (holds v) r q) (and_then (and_then (and_then (either z (done (On u)) (done (Out 0))) (follow (nodes code_at b (join xs (only (action.Goto 1)))))) (λ w. done (leave t w))) (follow (nodes code_at b ys)))) (sym p.is) (go (holds v)) where
-      go : (x : Bool) → Matches cells Fine InBlock (either x r q) (and_then (and_then (and_then (either x (done (On u)) (done (Out 0))) (follow (nodes code_at b (join xs (only (action.Goto 1)))))) (λ w. done (leave t w))) (follow (nodes code_at b ys)))
-      go true = record { by = λ s f. (first_side t r xs ys u (h u)).by s f }
-      go false = record { by = λ s f. (weaker_matches cells Fine h' leads_in).by s f }
+          go : (x : Bool) → Matches cells Fine InBlock (either x r q) (and_then (and_then (and_then (either x (done (On u)) (done (Out 0))) (follow (nodes code_at b (join xs (only (action.Goto 1)))))) (λ w. done (leave t w))) (follow (nodes code_at b ys)))
+          go true = record { by = λ s f. (first_side t r xs ys u (h u)).by s f }
+          go false = record { by = λ s f. (weaker_matches cells Fine h' leads_in).by s f }
     sides_do a k n t xs ys r q h h' v (Out j) p = absurd p
 
     -- ---- items

@@ -1,13 +1,12 @@
 -- What an expression becomes: instructions in the order of evaluation, with temporaries numbered as they are emitted.
-use Rattle.std.specs.Prelude.{ℕ, zero, suc, ◌==◌, pos, Bool, true, false, ◌&&◌, if◌then◌else◌, List, [], ◌∷◌, Option, Some, None}
+use Rattle.std.specs.Prelude.{ℕ, zero, suc, pos, Bool, true, false, ◌&&◌, if◌then◌else◌, List, [], ◌∷◌, Option, Some, None}
 use Rattle.l2_bits.specs.declared.types.Ty.{Ty}
-use Rattle.l2_bits.specs.Types.{int_type}
 use Rattle.l2_bits.specs.declared.operators.Op.{Op}
 use Rattle.l2_bits.specs.declared.operators.Op.TheVariants as arithmetic
 use Rattle.l2_runs.specs.declared.cells.CellType.{CellType}
 use Rattle.l2_runs.specs.declared.cells.CellType.TheVariants.{Integer, Pointer}
 use Rattle.l2_runs.specs.declared.cells.CellValue.{CellValue}
-use Rattle.l2_runs.specs.declared.cells.CellValue.TheVariants.{Number, Null, Invalid, At}
+use Rattle.l2_runs.specs.declared.cells.CellValue.TheVariants.{Number, Null, At}
 use Rattle.l2_runs.specs.declared.operators.UnaryOperator.{UnaryOperator}
 use Rattle.l2_runs.specs.declared.operators.UnaryOperator.TheVariants.{Negate, Not}
 use Rattle.l2_runs.specs.declared.operators.BinaryOperator.{BinaryOperator}
@@ -15,7 +14,6 @@ use Rattle.l2_runs.specs.declared.operators.BinaryOperator.TheVariants as binary
 use Rattle.l2_program.specs.Checked as tree
 use Rattle.l2_program.specs.Checked.{LvalueTree, TypedTree}
 use Rattle.l2_program.specs.Types.{type_of}
-use Rattle.l2_code.specs.declared.action.Operator.{Operator}
 use Rattle.l2_code.specs.declared.action.Operator.TheVariants as operator
 use Rattle.l2_code.specs.declared.action.PointerOperator.TheVariants as pointers
 use Rattle.l2_code.specs.declared.action.Operand.{Operand}

@@ -1,5 +1,5 @@
 -- What a statement becomes.
-use Rattle.std.specs.Prelude.{ℕ, zero, suc, ◌≤◌, List, [], ◌∷◌, length}
+use Rattle.std.specs.Prelude.{ℕ, suc, ◌≤◌, List, [], ◌∷◌, length}
 use Rattle.l2_runs.specs.declared.cells.CellType.{CellType}
 use Rattle.l2_runs.specs.declared.cells.CellType.TheVariants.{Integer, Pointer}
 use Rattle.l2_runs.specs.declared.cells.CellValue.TheVariants.{Invalid}

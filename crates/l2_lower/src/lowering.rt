@@ -35,12 +35,7 @@ fn program_code(
 }
 
 /// The instructions of a program with its lists.
-fn assembled(
-    alloc: Global,
-    p: &Program,
-    temps: u32,
-    items: Vec<Item>,
-) -> Result<Code, AllocError>
+fn assembled(alloc: Global, p: &Program, temps: u32, items: Vec<Item>) -> Result<Code, AllocError>
     ensures { IfOk result (λ c. code_of c ≡ record { objects = code_objects (program_tree p.now).names (program_tree p.now).static_values (program_tree p.now).objects; pointed = []; checks = map code_check (program_tree p.now).checks; loops = map code_loop (program_tree p.now).loops; temps = temps; body = items_of items.items }) }
 {
     Ok(Code {

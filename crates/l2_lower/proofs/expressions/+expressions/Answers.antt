@@ -1,4 +1,4 @@
-use Rattle.std.proofs.Common.{rules, ◌≡◌, ◌≢◌, ◌+◌, ◌<◌, subst, sym, ap}
+use Rattle.std.proofs.Common.{◌≡◌, ◌≢◌, ◌+◌, ◌<◌, subst, sym}
 use Rattle.l2_code.specs.Sizes.{instructions}
 use Rattle.l2_lower.specs.declared.error.LowerError.TheVariants.{NoMemory}
 use Rattle.l2_program.specs.Checked.{typed_tree}

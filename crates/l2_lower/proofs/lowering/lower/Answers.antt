@@ -1,4 +1,4 @@
-use Rattle.std.proofs.Common.{map, ap, ◌∙◌, sym, arith, ◌+◌, ◌≡◌}
+use Rattle.std.proofs.Common.{ap, arith}
 use Rattle.l2_program.specs.Programs.{program_tree}
 use Rattle.l2_meaning.specs.Execution.{cells_of, main_among}
 use Rattle.l2_code.specs.Sizes.{instructions}

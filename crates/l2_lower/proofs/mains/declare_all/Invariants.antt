@@ -1,4 +1,4 @@
-use Rattle.std.proofs.Common.{◌≡◌, drop}
+use Rattle.std.proofs.Common.{drop}
 use Rattle.l2_program.specs.Programs.{program_tree}
 use Rattle.l2_meaning.specs.Execution.{cells_of}
 use Rattle.l2_lower.specs.Code.{declarations}

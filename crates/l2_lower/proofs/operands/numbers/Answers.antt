@@ -1,4 +1,4 @@
-use Rattle.std.proofs.Common.{rules, ◌≡◌, pos, sym, ap, ◌∙◌, to_z, of_z, SFits}
+use Rattle.std.proofs.Common.{rules, pos, ◌∙◌, to_z, of_z, SFits}
 use Rattle.std.specs.Int.{w128}
 use Rattle.std.specs.Option.{unwrap_or}
 use Rattle.std.proofs.lemmas.Int.{to_z-of_z}

@@ -1,4 +1,4 @@
-use Rattle.std.proofs.Common.{rules, ◌≡◌, ◌≢◌, ◌+◌, ◌<◌, drop, subst, sym, ap, ◌∙◌, arith}
+use Rattle.std.proofs.Common.{subst, sym, ap, ◌∙◌, arith}
 use Rattle.l2_program.specs.Checked.{typed_tree, checked_tree, checked_trees}
 use Rattle.l2_program.specs.Checked as tree
 use Rattle.l2_program.proofs.Trees.{checked_tree-Block}

@@ -1,4 +1,4 @@
-use Rattle.std.proofs.Common.{◌≡◌, drop}
+use Rattle.std.proofs.Common.{drop}
 use Rattle.l2_lower.specs.Statements.{filled}
 use Rattle.l2_lower.specs.Output.{output}
 use Rattle.l2_lower.proofs.Outputs.{Leaves}
