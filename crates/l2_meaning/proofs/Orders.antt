@@ -29,7 +29,7 @@ contains_from_in (x ∷ xs) z (inr h) = let (k, low, is) = contains_from_in xs z
 module _ {A : Type 0} (R : A → A → Ordering) (o : IsTotalOrder R) (equal : (x y : A) → R x y ≡ Equal → x ≡ y) where
   -- ---- the list rises
 
-  all_with : (P : A → Type 0) (x : A) (ys : List A) → P x → AllByRecursion P ys → AllByRecursion P (with_item R x ys)
+  pub all_with : (P : A → Type 0) (x : A) (ys : List A) → P x → AllByRecursion P ys → AllByRecursion P (with_item R x ys)
   all_with P x [] h all = (h, tt)
   all_with P x (y ∷ ys) h (first, rest) = go (R x y) (all_with P x ys h rest) where
     go : (r : Ordering) → AllByRecursion P (with_item R x ys) → AllByRecursion P (placed x y ys (with_item R x ys) r)
@@ -137,7 +137,7 @@ module _ {A : Type 0} (R : A → A → Ordering) (o : IsTotalOrder R) (equal : (
 
 -- ---- numbers
 
-equal_numbers : (x y : ℕ) → nat_cmp x y ≡ Equal → x ≡ y
+pub equal_numbers : (x y : ℕ) → nat_cmp x y ≡ Equal → x ≡ y
 equal_numbers x y e = subst (λ r. MatchOrdering r (x < y) (x ≡ y) (y < x)) e (ranks x y)
 
 in_from_is_in : (n : ℕ) (ns : List ℕ) → IsIn n ns → In n ns

@@ -1,9 +1,11 @@
 -- Programs whose trees are typed, name what is in scope, and have what the lists say.
-use Rattle.std.specs.Prelude.{◌≡◌, ℕ, suc, ◌+◌, ◌<◌, ◌≤◌, ◌==◌, Bool, true, false, ◌&&◌, List, [], ◌∷◌, ◌++◌, length, map, Option, Some, None, ◌⊎◌}
+use Rattle.std.specs.Prelude.{◌≡◌, ℕ, suc, ◌+◌, ◌<◌, ◌≤◌, ◌==◌, Bool, true, false, ◌&&◌, List, [], ◌∷◌, ◌++◌, length, map, Option, Some, None, ◌⊎◌, All}
 use Rattle.l2_bits.specs.declared.types.Ty.{Ty}
 use Rattle.l2_bits.specs.Types.{int_type}
 use Rattle.l2_runs.specs.declared.cells.CellType.{CellType}
 use Rattle.l2_runs.specs.declared.cells.CellType.TheVariants.{Integer, Pointer}
+use Rattle.l2_runs.specs.declared.cells.CellValue.{CellValue}
+use Rattle.l2_runs.specs.declared.cells.CellValue.TheVariants.{Number, Null, Invalid, At}
 use Rattle.l2_runs.specs.Numbers.{at_number, numbers_where}
 use Rattle.l2_runs.specs.Fits.{Layout, CellFits}
 use Rattle.l2_runs.specs.declared.kind.Kind.{Kind}
@@ -19,7 +21,8 @@ use Rattle.l2_program.specs.Programs.{ProgramTree, FunctionTree}
 use Rattle.l2_meaning.specs.Execution.{cells_of, main_among}
 use Rattle.l2_meaning.specs.Scopes.{behind, statics_of}
 use Rattle.l2_meaning.specs.Pointing.{Sets, ArePointsTo}
-use Rattle.l2_meaning.specs.Changes.{function_loop_sets, HaveSets}
+use Rattle.l2_meaning.specs.Rising.{Rise}
+use Rattle.l2_meaning.specs.Changes.{is_integer, function_loop_sets, HaveSets}
 
 abbrev pub IsIn : ℕ → List ℕ → Type 0
 IsIn n [] = ⊥
@@ -133,6 +136,13 @@ IsScoped is_static scope (Convert ty e) = IsScoped is_static scope e
 IsScoped is_static scope (Assign ty l e) = IsScopedLvalue is_static scope l × IsScoped is_static scope e
 IsScoped is_static scope (Assert c e) = IsScoped is_static scope e
 
+-- a declaration is no statement, so it isn't what a loop or a branch does (C11 6.8)
+abbrev pub IsNoDeclaration : CheckedTree → Type 0
+IsNoDeclaration (Declare n) = ⊥
+IsNoDeclaration (Static n) = ⊥
+IsNoDeclaration (Initialise n e) = ⊥
+IsNoDeclaration s = Unit {0}
+
 abbrev mutual
   -- an object is in scope in its own initialiser, and from there to the end of its block (C11 6.2.1); its declaration has its storage
   pub IsScopedStatement : (ℕ → Bool) → List ℕ → CheckedTree → Type 0
@@ -142,9 +152,10 @@ abbrev mutual
   IsScopedStatement is_static scope (Initialise n e) = (is_static n ≡ false) × IsScoped is_static (scope ++ n ∷ []) e
   IsScopedStatement is_static scope (Label n) = Unit {0}
   IsScopedStatement is_static scope (Evaluate e) = IsScoped is_static scope e
-  IsScopedStatement is_static scope (If e s) = IsScoped is_static scope e × IsScopedStatement is_static scope s
-  IsScopedStatement is_static scope (IfElse e s t) = IsScoped is_static scope e × IsScopedStatement is_static scope s × IsScopedStatement is_static scope t
-  IsScopedStatement is_static scope (While l named e s) = IsScoped is_static scope e × IsScopedStatement is_static scope s
+  IsScopedStatement is_static scope (If e s) = IsScoped is_static scope e × IsNoDeclaration s × IsScopedStatement is_static scope s
+  IsScopedStatement is_static scope (IfElse e s t) =
+      IsScoped is_static scope e × IsNoDeclaration s × IsScopedStatement is_static scope s × IsNoDeclaration t × IsScopedStatement is_static scope t
+  IsScopedStatement is_static scope (While l named e s) = IsScoped is_static scope e × IsNoDeclaration s × IsScopedStatement is_static scope s
   IsScopedStatement is_static scope (Return e) = IsScoped is_static scope e
 
   pub AreScoped : (ℕ → Bool) → List ℕ → CheckedTrees → Type 0
@@ -153,11 +164,18 @@ abbrev mutual
 
 -- ---- static values
 
+-- no pointer is invalid at the start
+abbrev pub IsStart : CellValue → Type 0
+IsStart (Number z) = Unit {0}
+IsStart Null = Unit {0}
+IsStart Invalid = ⊥
+IsStart (At o f) = Unit {0}
+
 -- a static value stands for this cell of the object and fits it; then come those of the cells behind
 abbrev pub HoldStart : Layout → ℕ → ℕ → List CellType → List StaticValue → (List StaticValue → Type 0) → Type 0
 HoldStart cells n f [] values Rest = Rest values
 HoldStart cells n f (t ∷ types) [] Rest = ⊥
-HoldStart cells n f (t ∷ types) (s ∷ values) Rest = (s.object ≡ n) × (s.offset ≡ f) × CellFits cells t s.value × HoldStart cells n (suc f) types values Rest
+HoldStart cells n f (t ∷ types) (s ∷ values) Rest = (s.object ≡ n) × (s.offset ≡ f) × CellFits cells t s.value × IsStart s.value × HoldStart cells n (suc f) types values Rest
 
 -- those of an object, where it is static
 abbrev pub HoldObject : Bool → Layout → ℕ → List CellType → List StaticValue → (List StaticValue → Type 0) → Type 0
@@ -240,3 +258,10 @@ pub record IsLawful (p : ProgramTree) : Type 0 where
 -- one of the program's checks
 abbrev pub IsCheckOf : ProgramTree → ℕ → Type 0
 IsCheckOf p c = IsSome (at_number p.checks c)
+
+-- a loop's sets rise; what it may change are objects with cells, and its variables are objects of one integer cell
+pub record AreOfObjects (cells : Layout) (info : LoopInfo) : Type 0 where
+  pub mods_rise : Rise info.mods
+  pub vars_rise : Rise info.vars
+  pub changed : All (λ n. 0 < length (cells n)) info.mods
+  pub variables : All (λ n. is_integer (cells n) ≡ true) info.vars

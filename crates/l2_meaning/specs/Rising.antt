@@ -1,5 +1,5 @@
 -- Lists in rising order, each item once.
-use Rattle.std.specs.Prelude.{ℕ, List, [], ◌∷◌}
+use Rattle.std.specs.Prelude.{ℕ, ◌<◌, List, [], ◌∷◌}
 use Rattle.std.specs.Ordering.{nat_cmp}
 use Rattle.std.specs.declared.cmp.Ordering.{Ordering}
 use Rattle.std.specs.declared.cmp.Ordering.TheVariants.{Less, Equal, Greater}
@@ -22,3 +22,9 @@ in_order cmp (x ∷ xs) = with_item cmp x (in_order cmp xs)
 
 abbrev pub rising : List ℕ → List ℕ
 rising ns = in_order nat_cmp ns
+
+-- each number is below the next one
+abbrev pub Rise : List ℕ → Type 0
+Rise [] = Unit {0}
+Rise (n ∷ []) = Unit {0}
+Rise (n ∷ m ∷ rest) = (n < m) × Rise (m ∷ rest)

@@ -1,20 +1,20 @@
 -- Unwound code does what code does in cut runs.
-use Rattle.std.proofs.Common.{◌≡◌, refl, ap, ◌∙◌, ℕ, zero, suc, ℤ, pos, Bool, true, false, List, [], ◌∷◌, Option, Some, None}
+use Rattle.std.proofs.Common.{◌≡◌, refl, ap, ◌∙◌, ℕ, zero, suc, ℤ, pos, Bool, true, false, Option, Some, None}
 use Rattle.std.specs.Ordering.{int_eq}
 use Rattle.l2_runs.specs.declared.outcome.Outcome.TheVariants.{Stopped}
 use Rattle.l2_runs.specs.Runs.{State, Result, Go, Halt, Over, Run, on_go, and_then, done, stop, either, choose}
-use Rattle.l2_runs.specs.Loops.{Cut, Real, Tests, Turn, tested, rounds, copies, later_copies, cut, or_next, or_stop}
+use Rattle.l2_runs.specs.Loops.{Cut, Turn, tested, rounds, copies, later_copies, or_next, or_stop}
 use Rattle.l2_code.specs.declared.action.Action.{Action}
 use Rattle.l2_code.specs.declared.action.Action.TheVariants as action
 use Rattle.l2_code.specs.Trees as code
-use Rattle.l2_code.specs.Values.{Types, Temps, no_temps}
+use Rattle.l2_code.specs.Values.{Temps, no_temps}
 use Rattle.l2_code.specs.Machine as machine
 use Rattle.l2_code.specs.Machine.{Way, Out, act, follow, leave, close, node, nodes, code_loop}
 use Rattle.l2_runs.specs.Back.{back}
 use Rattle.l2_code.specs.Modes.{types_of, mods_of}
 use Rattle.l2_unwind.specs.Law.{RunsAreCutRuns}
-use Rattle.l2_unwind.specs.Flat.{FlatNodes, Copies, no_copies, copy, copies_of, unwound, unwound_node}
-use Rattle.l2_unwind.specs.Runs.{Setting, plain, tested_copy, or_on, or_stopped, enter, counts, or_leave, flat_node, flat_nodes, after_entry, after_back}
+use Rattle.l2_unwind.specs.Flat.{FlatNodes, copies_of, unwound, unwound_node}
+use Rattle.l2_unwind.specs.Runs.{Setting, plain, tested_copy, or_on, or_stopped, enter, flat_node, flat_nodes, after_entry, after_back}
 
 -- the cut runs that a setting of unwound code stands for
 abbrev cut_setting : ℕ → Setting → machine.Setting
@@ -89,7 +89,7 @@ choice_is f h same (Halt e s) = refl
 
 loop_is : (k : ℕ) (g : Setting) (b : Bool) (l : ℕ) (body : FlatNodes) (t : Temps) (s : State)
     → enter (copies_of k body) (after_entry g b l (copies_of k body) t) (and_then (g.back l) (λ u. after_back g b l (copies_of k body) t)) s
-        ≡ code_loop (cut_setting k g) l (turn_in g body t) b s
+    ≡ code_loop (cut_setting k g) l (turn_in g body t) b s
 loop_is zero g b l body t s = refl
 loop_is (suc n) g b l body t s = choice_is _ _ (λ z s. either_is _ (g.back l) _ _ _ (entry_is g b l body t (suc n) tt) (back_is g b l body t n) (int_eq z (pos 0)) s) (choose s)
 

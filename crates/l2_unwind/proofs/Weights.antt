@@ -1,11 +1,11 @@
 -- The weight of a code is that of the instructions of the unwound code.
-use Rattle.std.proofs.Common.{arith, ◌≡◌, refl, ap, sym, ◌∙◌, ℕ, zero, suc, ◌+◌, ◌*◌, List, [], ◌∷◌, ◌++◌}
+use Rattle.std.proofs.Common.{arith, ◌≡◌, refl, ap, ℕ, zero, suc, ◌+◌, ◌*◌, List, [], ◌∷◌, ◌++◌}
 use Rattle.l2_code.specs.Trees as code
 use Rattle.l2_code.specs.Trees.{CodeTree}
 use Rattle.l2_code.specs.Sets.{Family}
 use Rattle.l2_code.specs.Sizes.{node_size, nodes_size, head_weight, end_weight}
 use Rattle.l2_unwind.specs.Law.{SizesAreWeights}
-use Rattle.l2_unwind.specs.Flat.{FlatNodes, Placed, Step, Close, copies_of, unwound, unwound_node, steps_of, steps_of_node, steps_of_copies, step_weight, weight_of}
+use Rattle.l2_unwind.specs.Flat.{FlatNodes, Placed, Close, copies_of, unwound, unwound_node, steps_of, steps_of_node, steps_of_copies, weight_of}
 
 weight_of-++ : (c : CodeTree) (f : Family) (rows : List ℕ) (xs ys : List Placed) → weight_of c f rows (xs ++ ys) ≡ weight_of c f rows xs + weight_of c f rows ys
 weight_of-++ c f rows [] ys = omega arith

@@ -1,8 +1,8 @@
 -- What unwound code does.
-use Rattle.std.specs.Prelude.{◌≡◌, ℕ, pos, Bool, true, false, Option, Some, None}
+use Rattle.std.specs.Prelude.{ℕ, pos, Bool, true, false, Option, Some, None}
 use Rattle.std.specs.Ordering.{int_eq}
 use Rattle.l2_runs.specs.Store.{Store}
-use Rattle.l2_runs.specs.Runs.{Run, State, and_then, done, stop, either, choose}
+use Rattle.l2_runs.specs.Runs.{Run, and_then, done, stop, either, choose}
 use Rattle.l2_runs.specs.Loops.{Tests, Real, tested}
 use Rattle.l2_runs.specs.Back.{back}
 use Rattle.l2_code.specs.Trees.{CodeTree}
