@@ -1,20 +1,19 @@
 -- Which edges are due.
-use Rattle.std.specs.Prelude.{◌≡◌, ℕ, zero, suc, ◌+◌, ◌-◌, ◌<◌, ◌≤◌, ◌==◌, nat_lt, Bool, true, false, ◌||◌, ◌&&◌, if◌then◌else◌, cond, List, [], ◌∷◌, ◌++◌, length, refl}
-use Rattle.std.specs.List.{All}
+use Rattle.std.specs.Prelude.{◌≡◌, ℕ, zero, suc, ◌+◌, ◌-◌, ◌<◌, ◌≤◌, ◌==◌, nat_lt, Bool, true, false, ◌||◌, ◌&&◌, if◌then◌else◌, List, [], ◌∷◌, ◌++◌, length, refl}
 use Rattle.std.proofs.lemmas.Bool.{eq-eqb, eqb-true, lt-ltb, le-ltb}
-use Rattle.std.proofs.Common.{arith, get_or, sym, subst, ap, ◌∙◌, ltb}
+use Rattle.std.proofs.Common.{arith, get_or, sym, subst, ap, ◌∙◌}
 use Rattle.l2_runs.specs.declared.member.Member.{Member}
 use Rattle.l2_runs.specs.declared.member.Member.TheVariants.{Null, Invalid, Object}
-use Rattle.l2_runs.specs.Members.{has, same_member, Within}
+use Rattle.l2_runs.specs.Members.{has}
 use Rattle.l2_inclusions.specs.declared.graph.Edge.{Edge}
 use Rattle.l2_inclusions.specs.declared.inclusion.Inclusion.{Inclusion}
 use Rattle.l2_inclusions.specs.declared.inclusion.Inclusion.TheVariants.{Has, Copies, Loads, Stores}
 use Rattle.l2_inclusions.specs.Inclusions.{Family, object_node, Keeps, IsClosed}
 use Rattle.l2_inclusions.specs.Rows.{RowsValue, members_at, number_at, set_at, IsInside}
 use Rattle.l2_inclusions.specs.Edges.{LeadsAlong, Leads}
-use Rattle.l2_inclusions.specs.Valuation.{implies, loads_may, objects_may, load_node, store_node, may_have, AreDue, AddsDue}
+use Rattle.l2_inclusions.specs.Valuation.{implies, loads_may, objects_may, load_node, store_node, may_have, AreDue}
 use Rattle.l2_inclusions.proofs.Settled.{implies_by, implies_on}
-use Rattle.l2_inclusions.proofs.Having.{same_true, or_left, or_right}
+use Rattle.l2_inclusions.proofs.Having.{or_left, or_right}
 
 -- ---- nodes
 

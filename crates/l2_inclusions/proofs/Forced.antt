@@ -1,5 +1,5 @@
 -- Rounds give nothing but what every closed family has.
-use Rattle.std.specs.Prelude.{◌≡◌, ℕ, ◌<◌, ◌≤◌, Bool, true, false, List, [], ◌∷◌, length, slice_set, refl}
+use Rattle.std.specs.Prelude.{◌≡◌, ℕ, ◌<◌, ◌≤◌, Bool, true, List, [], ◌∷◌, length, slice_set}
 use Rattle.std.proofs.Common.{arith, get_or, set, sym, subst, ap, inl, inr, ◌∙◌}
 use Rattle.std.proofs.lemmas.List.{get_or_past}
 use native.Mathlib.Decide.{dec_lt}
@@ -9,7 +9,7 @@ use Rattle.l2_code.specs.declared.sets.PointsTo.{PointsTo}
 use Rattle.l2_inclusions.specs.declared.inclusion.Inclusion.{Inclusion}
 use Rattle.l2_inclusions.specs.declared.graph.Edge.{Edge}
 use Rattle.l2_inclusions.specs.Inclusions.{Family, IsClosed}
-use Rattle.l2_inclusions.specs.Rows.{RowsValue, members_at, number_at, set_at, AreRows, Grows, Brings, IsInside}
+use Rattle.l2_inclusions.specs.Rows.{RowsValue, members_at, number_at, set_at, AreRows, Grows, Brings}
 use Rattle.l2_inclusions.specs.Edges.{Fits, GoesAlong}
 use Rattle.l2_inclusions.specs.Valuation.{may_have, AreDue}
 use Rattle.l2_inclusions.specs.Closing.{AreForced}

@@ -1,12 +1,12 @@
 -- What holds of each member of a set.
-use Rattle.std.specs.Prelude.{◌≡◌, ℕ, ◌≤◌, ◌<◌, ◌+◌, Bool, true, false, ◌||◌, List, [], ◌∷◌, length, refl}
+use Rattle.std.specs.Prelude.{◌≡◌, ℕ, ◌≤◌, Bool, true, false, ◌||◌, List, [], ◌∷◌, length, refl}
 use Rattle.std.specs.List.{All}
-use Rattle.std.proofs.Common.{take, get_or, sym, subst, ◌∙◌}
+use Rattle.std.proofs.Common.{take, sym, subst}
 use Rattle.std.proofs.lemmas.List.{take_all}
 use Rattle.std.proofs.lemmas.List.Elements.{All-head, All-tail}
 use Rattle.l2_runs.specs.declared.member.Member.{Member}
 use Rattle.l2_runs.specs.declared.member.Member.TheVariants.{Object}
-use Rattle.l2_runs.specs.Members.{has, same_member, Within}
+use Rattle.l2_runs.specs.Members.{has, same_member}
 use Rattle.l2_inclusions.specs.declared.inclusion.Inclusion.TheVariants.{Loads, Stores}
 use Rattle.l2_inclusions.specs.Inclusions.{object_node, Keeps}
 use Rattle.l2_inclusions.specs.Rows.{RowsValue, members_at, number_at, set_at}

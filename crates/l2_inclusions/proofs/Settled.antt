@@ -1,6 +1,5 @@
 -- What a part of a graph is given went along edges.
-use Rattle.std.specs.Prelude.{◌≡◌, ℕ, zero, suc, ◌<◌, ◌≤◌, Bool, true, false, not, ◌||◌, ◌⊎◌, List, [], ◌∷◌, ◌++◌, length, slice_index_or, slice_set, nat_le, refl}
-use Rattle.std.specs.List.{All}
+use Rattle.std.specs.Prelude.{◌≡◌, ℕ, zero, suc, Bool, true, false, ◌⊎◌, List, [], ◌∷◌, length, slice_set, nat_le, refl}
 use Rattle.std.proofs.lemmas.Bool.{leb-true, le-leb}
 use Rattle.std.proofs.Common.{arith, get_or, set, sym, subst, ap, inl, inr, ◌∙◌}
 use Rattle.l2_runs.specs.declared.member.Member.{Member}
@@ -8,7 +7,7 @@ use Rattle.l2_runs.specs.Members.{has}
 use Rattle.l2_code.specs.declared.sets.PointsTo.{PointsTo}
 use Rattle.l2_inclusions.specs.declared.graph.Edge.{Edge}
 use Rattle.l2_inclusions.specs.Rows.{RowsValue, members_at, number_at, set_at, AreRows, Grows, Brings, AreNumbers, AllBring}
-use Rattle.l2_inclusions.specs.Edges.{LeadsAlong, Leads, AllPass, EachPasses, Transfers, IsLed, Fits, GoesAlong}
+use Rattle.l2_inclusions.specs.Edges.{Leads, AllPass, EachPasses, Transfers, IsLed, Fits, GoesAlong}
 use Rattle.l2_inclusions.specs.Valuation.{implies}
 
 pub implies_by : (a b : Bool) → (a ≡ true → b ≡ true) → implies a b ≡ true

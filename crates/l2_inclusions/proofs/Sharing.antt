@@ -1,12 +1,11 @@
 -- Sets by their numbers.
-use Rattle.std.specs.Prelude.{◌≡◌, ℕ, zero, suc, ◌+◌, ◌<◌, ◌≤◌, Bool, true, List, [], ◌∷◌, ◌++◌, length, Option, Some, None, slice_get, refl}
+use Rattle.std.specs.Prelude.{◌≡◌, ℕ, zero, suc, ◌<◌, ◌≤◌, Bool, List, [], ◌∷◌, ◌++◌, length, Some, slice_get, refl}
 use Rattle.std.proofs.Common.{length-append, get_or, arith, ap, sym, subst, ◌∙◌}
 use Rattle.l2_runs.specs.declared.member.Member.{Member}
-use Rattle.l2_runs.specs.Numbers.{at_number}
 use Rattle.l2_runs.specs.Members.{has, Within}
 use Rattle.l2_code.specs.declared.sets.PointsTo.{PointsTo}
 use Rattle.l2_code.specs.Sets.{members_of, Rises, AllRise}
-use Rattle.l2_inclusions.specs.Rows.{RowsValue, members_at, number_at, AreRows, Grows, Brings, AreNumbers, AllBring}
+use Rattle.l2_inclusions.specs.Rows.{RowsValue, members_at, AreRows, Grows, Brings, AreNumbers, AllBring}
 
 get_kept : (xs ys : List PointsTo) (n : ℕ) → n < length xs → slice_get (xs ++ ys) n ≡ slice_get xs n
 get_kept [] ys n h = absurd (omega arith)

@@ -1,8 +1,6 @@
 -- Walks over graphs.
-use Rattle.std.specs.Prelude.{◌≡◌, ℕ, zero, suc, ◌<◌, Bool, true, List, [], ◌∷◌, ◌++◌, length, refl}
-use Rattle.std.specs.List.{All}
+use Rattle.std.specs.Prelude.{◌≡◌, ℕ, zero, suc, ◌<◌, Bool, true, List, [], ◌∷◌, ◌++◌, length}
 use Rattle.std.proofs.Common.{arith, get_or, sym, subst}
-use Rattle.std.proofs.lemmas.List.{get_or_default}
 use Rattle.l2_inclusions.proofs.Sharing.{each_push}
 use Rattle.l2_inclusions.specs.Edges.{AllPass, EachPasses}
 

@@ -4,7 +4,7 @@ use Rattle.l2_runs.specs.declared.member.Member.{Member}
 use Rattle.l2_runs.specs.Numbers.{at_number}
 use Rattle.l2_runs.specs.Members.{has, Within}
 use Rattle.l2_code.specs.declared.sets.PointsTo.{PointsTo}
-use Rattle.l2_code.specs.Sets.{members_of, Rises, AllRise}
+use Rattle.l2_code.specs.Sets.{members_of, AllRise}
 use Rattle.l2_inclusions.specs.Inclusions.{Family}
 
 -- sets, and by node the number of its set, from 1 on, or 0 for the empty set

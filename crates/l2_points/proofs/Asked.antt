@@ -1,10 +1,10 @@
 -- A code asks of sets what its inclusions do.
-use Rattle.std.specs.Prelude.{◌≡◌, ℕ, zero, suc, ◌+◌, ◌<◌, ◌≤◌, ◌==◌, Bool, true, false, ◌||◌, if◌then◌else◌, List, [], ◌∷◌, ◌++◌, length, Option, Some, None, slice_get, refl}
+use Rattle.std.specs.Prelude.{◌≡◌, ℕ, zero, suc, ◌+◌, Bool, true, false, if◌then◌else◌, List, [], ◌∷◌, ◌++◌, length, Some, slice_get, refl}
 use Rattle.std.specs.List.{All}
-use Rattle.std.proofs.Common.{arith, get_or, length-append, ap, sym, subst, ◌∙◌}
+use Rattle.std.proofs.Common.{arith, length-append, ap, sym, subst, ◌∙◌}
 use Rattle.std.proofs.lemmas.Bool.{eq-eqb, eqb-true}
 use Rattle.std.proofs.lemmas.List.{get_or_append_left, get_or-append-add}
-use Rattle.std.proofs.lemmas.List.Elements.{All-append, All-cons, All-nil, All-head, All-tail}
+use Rattle.std.proofs.lemmas.List.Elements.{All-append, All-cons, All-nil}
 use Rattle.l2_runs.specs.declared.cells.CellValue.{CellValue}
 use Rattle.l2_runs.specs.declared.cells.CellValue.TheVariants as value
 use Rattle.l2_runs.specs.declared.member.Member.{Member}
@@ -25,7 +25,7 @@ use Rattle.l2_inclusions.specs.declared.inclusion.Inclusion.TheVariants.{Has, Co
 use Rattle.l2_inclusions.specs.Inclusions as nodes
 use Rattle.l2_inclusions.specs.Inclusions.{object_node, Keeps}
 use Rattle.l2_inclusions.proofs.Having.{same_true}
-use Rattle.l2_points.specs.Gathering.{temp_node, number_of, one_node, code_family, node_family, target_of, copies_one, copies, loads_one, loads, stores_one, stores_value, stores, of_result, of_action, of_node, of_nodes, of_start, of_first, of_objects, inclusions_of}
+use Rattle.l2_points.specs.Gathering.{temp_node, number_of, one_node, code_family, node_family, target_of, copies_one, copies, loads, stores_value, stores, of_result, of_action, of_node, of_nodes, of_start, of_first, of_objects, inclusions_of}
 use Rattle.l2_points.proofs.Nodes.{at_object, at_temp, at_one, number_of-same}
 
 -- ---- lists
@@ -128,9 +128,10 @@ mutual
 
 start_code : (f : nodes.Family) (n : ℕ) (vs : List CellValue) → All (Keeps f) (of_start n vs) → AreHeld (f (object_node n)) vs
 start_code f n [] all = tt
-start_code f n (v ∷ vs) all =
-    (copies_code f (Constant v) (object_node n) (all_left (Keeps f) (copies_one (target_of v) (object_node n)) (of_start n vs) all),
-    start_code f n vs (all_right (Keeps f) (copies_one (target_of v) (object_node n)) (of_start n vs) all))
+start_code f n (v ∷ vs) all = (
+  copies_code f (Constant v) (object_node n) (all_left (Keeps f) (copies_one (target_of v) (object_node n)) (of_start n vs) all),
+  start_code f n vs (all_right (Keeps f) (copies_one (target_of v) (object_node n)) (of_start n vs) all),
+)
 
 first_code : (f : nodes.Family) (n : ℕ) (m : Member) (b : Bool) → All (Keeps f) (if b then Has (object_node n) m ∷ [] else []) → b ≡ true → f (object_node n) m ≡ true
 first_code f n m true all e = single f (Has (object_node n) m) all
@@ -144,8 +145,10 @@ objects_code f n (x ∷ os) all zero o e =
     let first = all_left (Keeps f) (of_first n x ++ of_start n x.start) (of_objects (suc n) os) all in
     subst (λ (y : CodeObject). IsClosedObject (f (object_node (n + 0))) y) s
     (subst (λ (j : ℕ). IsClosedObject (f (object_node j)) x) k
-    (record { first = first_code f n (unwritten x.is_static) (has_pointer x.cells) (all_left (Keeps f) (of_first n x) (of_start n x.start) first);
-    start = start_code f n x.start (all_right (Keeps f) (of_first n x) (of_start n x.start) first) }))
+    (record {
+      first = first_code f n (unwritten x.is_static) (has_pointer x.cells) (all_left (Keeps f) (of_first n x) (of_start n x.start) first);
+      start = start_code f n x.start (all_right (Keeps f) (of_first n x) (of_start n x.start) first);
+    }))
 objects_code f n (x ∷ os) all (suc i) o e =
     let k : suc n + i ≡ n + suc i = omega arith in
     subst (λ (j : ℕ). IsClosedObject (f (object_node j)) o) k
@@ -153,15 +156,16 @@ objects_code f n (x ∷ os) all (suc i) o e =
 
 pub closed_code : (f : nodes.Family) (c : CodeTree) → nodes.IsClosed f (inclusions_of c) → IsClosed c (code_family f)
 closed_code f c all = record {
-    actions = nodes_code f c.body (all_left (Keeps f) (of_nodes c.body) (of_objects 1 c.objects) all);
-    objects = λ n o e. numbered n o e }
+  actions = nodes_code f c.body (all_left (Keeps f) (of_nodes c.body) (of_objects 1 c.objects) all);
+  objects = λ n o e. numbered n o e;
+}
   where
-  numbered : (n : ℕ) (o : CodeObject) → at_number c.objects n ≡ Some o → IsClosedObject (f (object_node n)) o
-  numbered zero o e = absurd (cc)
-  numbered (suc i) o e =
-      let k : 1 + i ≡ suc i = omega arith in
-      subst (λ (j : ℕ). IsClosedObject (f (object_node j)) o) k
-      (objects_code f 1 c.objects (all_right (Keeps f) (of_nodes c.body) (of_objects 1 c.objects) all) i o e)
+    numbered : (n : ℕ) (o : CodeObject) → at_number c.objects n ≡ Some o → IsClosedObject (f (object_node n)) o
+    numbered zero o e = absurd (cc)
+    numbered (suc i) o e =
+        let k : 1 + i ≡ suc i = omega arith in
+        subst (λ (j : ℕ). IsClosedObject (f (object_node j)) o) k
+        (objects_code f 1 c.objects (all_right (Keeps f) (of_nodes c.body) (of_objects 1 c.objects) all) i o e)
 
 -- ---- from code to nodes
 

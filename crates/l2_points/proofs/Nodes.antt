@@ -1,10 +1,8 @@
 -- Nodes of objects, of temporaries, and of one member.
-use Rattle.std.specs.Prelude.{◌≡◌, ℕ, zero, suc, ◌+◌, ◌*◌, ◌/◌, ◌%◌, ◌==◌, Bool, true, false, List, refl}
-use Rattle.std.proofs.Common.{arith, ap, sym, subst, ◌∙◌}
-use Rattle.std.proofs.lemmas.Bool.{eq-eqb, eqb-true}
+use Rattle.std.specs.Prelude.{◌≡◌, ℕ, ◌/◌, ◌%◌, ◌==◌, refl}
+use Rattle.std.proofs.Common.{arith, ap, ◌∙◌}
 use Rattle.l2_runs.specs.declared.member.Member.{Member}
 use Rattle.l2_runs.specs.declared.member.Member.TheVariants.{Null, Invalid, Object}
-use Rattle.l2_runs.specs.Members.{same_member}
 use Rattle.l2_code.specs.Sets.{Family}
 use Rattle.l2_inclusions.specs.Inclusions.{object_node}
 use Rattle.l2_points.specs.Gathering.{temp_node, number_of, one_node, node_set, node_family}

@@ -37,7 +37,11 @@ fn target_of(value: CellValue) -> Option<Member>
     }
 }
 
-fn copies_one(list: &mut Vec<Inclusion>, member: Option<Member>, node: usize) -> Result<(), AllocError>
+fn copies_one(
+    list: &mut Vec<Inclusion>,
+    member: Option<Member>,
+    node: usize,
+) -> Result<(), AllocError>
     ensures { OnOk result (list.new.items ≡ list.old.items ++ copies_one member node) }
 {
     if let Some(member) = member {
@@ -59,7 +63,11 @@ fn copies(list: &mut Vec<Inclusion>, operand: Operand, node: usize) -> Result<()
     }
 }
 
-fn loads_one(list: &mut Vec<Inclusion>, member: Option<Member>, node: usize) -> Result<(), AllocError>
+fn loads_one(
+    list: &mut Vec<Inclusion>,
+    member: Option<Member>,
+    node: usize,
+) -> Result<(), AllocError>
     ensures { OnOk result (list.new.items ≡ list.old.items ++ loads_one member node) }
 {
     match member {
@@ -85,7 +93,11 @@ fn loads(list: &mut Vec<Inclusion>, operand: Operand, node: usize) -> Result<(),
     }
 }
 
-fn stores_one(list: &mut Vec<Inclusion>, member: Option<Member>, operand: Operand) -> Result<(), AllocError>
+fn stores_one(
+    list: &mut Vec<Inclusion>,
+    member: Option<Member>,
+    operand: Operand,
+) -> Result<(), AllocError>
     ensures { OnOk result (list.new.items ≡ list.old.items ++ stores_one member operand) }
 {
     match member {
@@ -96,7 +108,11 @@ fn stores_one(list: &mut Vec<Inclusion>, member: Option<Member>, operand: Operan
     }
 }
 
-fn stores_value(list: &mut Vec<Inclusion>, temp: u32, member: Option<Member>) -> Result<(), AllocError>
+fn stores_value(
+    list: &mut Vec<Inclusion>,
+    temp: u32,
+    member: Option<Member>,
+) -> Result<(), AllocError>
     ensures { OnOk result (list.new.items ≡ list.old.items ++ stores_value temp member) }
 {
     if let Some(member) = member {
@@ -139,7 +155,11 @@ fn of_action(list: &mut Vec<Inclusion>, action: &Action) -> Result<(), AllocErro
     }
 }
 
-fn of_result(list: &mut Vec<Inclusion>, temp: u32, computation: &Computation) -> Result<(), AllocError>
+fn of_result(
+    list: &mut Vec<Inclusion>,
+    temp: u32,
+    computation: &Computation,
+) -> Result<(), AllocError>
     ensures { OnOk result (list.new.items ≡ list.old.items ++ of_result temp computation.now) }
 {
     match computation {
@@ -199,7 +219,11 @@ fn of_first(list: &mut Vec<Inclusion>, number: u32, object: &CodeObject) -> Resu
     ensures { OnOk result (list.new.items ≡ list.old.items ++ of_first number object.now) }
 {
     if has_pointer(object.cells.as_slice()) {
-        let member = if object.is_static { Member::Null } else { Member::Invalid };
+        let member = if object.is_static {
+            Member::Null
+        } else {
+            Member::Invalid
+        };
         list.push(Inclusion::Has(object_node(number), member))?;
     }
     Ok(())

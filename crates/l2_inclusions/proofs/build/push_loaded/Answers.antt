@@ -1,4 +1,4 @@
-use Rattle.std.proofs.Common.{arith, subst, sym, ap, ◌∙◌, ℕ, ◌≤◌, length}
+use Rattle.std.proofs.Common.{arith, ap, ◌∙◌, ℕ}
 use Rattle.l2_inclusions.specs.Valuation.{load_node}
 use Rattle.l2_inclusions.proofs.Due.{due_loaded}
 use Rattle.l2_inclusions.proofs.build.push_loaded.Goals as goal

@@ -1,8 +1,8 @@
-use Rattle.std.proofs.Common.{arith, subst, sym, ◌≡◌, true, List, Bool}
+use Rattle.std.proofs.Common.{arith, subst, sym, List}
 use Rattle.l2_runs.specs.declared.member.Member.{Member}
 use Rattle.l2_inclusions.specs.declared.inclusion.Inclusion.{Inclusion}
-use Rattle.l2_inclusions.specs.Inclusions.{Family, Keeps}
-use Rattle.l2_inclusions.specs.Rows.{members_at, Brings}
+use Rattle.l2_inclusions.specs.Inclusions.{Keeps}
+use Rattle.l2_inclusions.specs.Rows.{Brings}
 use Rattle.l2_inclusions.proofs.Forced.{Given, given_forced}
 use Rattle.l2_inclusions.proofs.solve.take.Goals as goal
 
