@@ -1,5 +1,5 @@
 -- The thresholds of the program of a text.
-use Rattle.std.proofs.Common.{◌≡◌, ℕ, List, [], ◌∷◌, Bool, true, false, cond, Option, None, Some, refl, ap, sym, ◌∙◌, subst}
+use Rattle.std.proofs.Common.{◌≡◌, List, [], ◌∷◌, Bool, true, false, cond, Option, None, Some, ap, sym, subst}
 use Rattle.std.specs.Prelude.{option_map}
 use Rattle.l2_syntax.specs.declared.token.Token.{Token}
 use Rattle.l2_program.specs.Programs.{ProgramTree}
@@ -9,14 +9,14 @@ use Rattle.l2_tree.specs.Trees.{UnitTree}
 use Rattle.l2_lex.specs.Lexing.{tokens_of}
 use Rattle.l2_parse_unit.specs.Reading.{is_constant, constants_of}
 use Rattle.l2_small.specs.SmallTrees.{SmallUnitTree}
-use Rattle.l2_small.specs.SmallForm.{and_then, MainTree, unit_with, small_externals, small_of}
+use Rattle.l2_small.specs.SmallForm.{and_then, MainTree, unit_with, small_externals}
 use Rattle.l2_small_check.specs.Elaboration.{Elaborated, items, nothing_found, program_with, program_of}
 use Rattle.l2_program.specs.Checked.{CheckedTree}
-use Rattle.l2_constant_laws.specs.Laws.{AreSmall, AreBytes}
+use Rattle.l2_constant_laws.specs.Laws.{AreSmall}
 use Rattle.l2_constant_laws.proofs.Small.{constants_law}
 use Rattle.l2_constant_laws.proofs.Near.{thresholds_law}
 use Rattle.l2_thresholds.proofs.Order.{rise, has_zero}
-use Rattle.l2_front.specs.Programs.{IsProgram, small_program}
+use Rattle.l2_front.specs.Programs.{small_program}
 use Rattle.l2_text_laws.specs.Laws.{AreBounds, ThresholdsOfAText}
 
 constants_small : (tokens : List Token) → AreSmall tokens → AreSmall (constants_of tokens)
