@@ -1,0 +1,155 @@
+-- The search stays below each point that infers.
+use Rattle.std.proofs.Common.{◌≡◌, ℕ, zero, suc, ◌+◌, ◌-◌, ◌<◌, ◌≤◌, Bool, true, false, ℤ, pos, ◌≤ℤ◌, ◌<ℤ◌, List, [], ◌∷◌, length, get_or, map, replicate, Option, Some, None, ◌⊎◌, inl, inr, refl, sym, ap, ◌∙◌, subst, if◌then◌else◌, arith}
+use Rattle.std.specs.Prelude.{slice_get, slice_set, slice_index_or}
+use Rattle.std.specs.List.{Contains}
+use Rattle.std.proofs.lemmas.Int.{ints}
+use Rattle.std.proofs.lemmas.List.{length-replicate}
+use native.Mathlib.Decide.{dec_lt, ℕ_discrete}
+use Rattle.l2_runs.specs.Numbers.{at_number}
+use Rattle.l2_templates.specs.declared.form.Form.{Form}
+use Rattle.l2_templates.specs.declared.form.Row.{Row}
+use Rattle.l2_templates.specs.declared.point.LoopPoint.{LoopPoint}
+use Rattle.l2_templates.specs.declared.point.LoopPoint.TheVariants.{Bottom, Rows}
+use Rattle.l2_templates.specs.Domains.{Rises}
+use Rattle.l2_templates.specs.Rows.{row_of}
+use Rattle.l2_templates.specs.Forms.{no_form}
+use Rattle.l2_templates.specs.Points.{IsTighter, Tightens, BoundsAll, IsStrongerAt, IsStronger}
+use Rattle.l2_cuts.specs.Points.{point_at}
+use Rattle.l2_cuts.specs.Strongest.{IsBoundOf, HaveBounds}
+use Rattle.l2_strategy.specs.Asking.{IsBounded, IsFailedAt, IsFailed}
+use Rattle.l2_strategy.specs.Places.{IsOf, AreOf, IsStrongestOf, Spot, forms_of, at_bottom, rows_of, spot_point, point_of, AtMost, IsBelow, AreBelow, AreFit, IsSearching}
+
+-- ---- bounds
+
+get_some : (bounds : List ℤ) (i : ℕ) (d : ℤ) → i < length bounds → slice_get bounds i ≡ Some (slice_index_or bounds i d)
+get_some [] i d h = absurd (omega (arith, h))
+get_some (x ∷ xs) zero d h = refl
+get_some (x ∷ xs) (suc i) d h = get_some xs i d (omega (arith, h))
+
+get_none : (bounds : List ℤ) (i : ℕ) → length bounds ≤ i → slice_get bounds i ≡ None
+get_none [] i h = refl
+get_none (x ∷ xs) zero h = absurd (omega (arith, h))
+get_none (x ∷ xs) (suc i) h = get_none xs i (omega (arith, h))
+
+same_default : (bounds : List ℤ) (i : ℕ) (d e : ℤ) → i < length bounds → slice_index_or bounds i d ≡ slice_index_or bounds i e
+same_default [] i d e h = absurd (omega (arith, h))
+same_default (x ∷ xs) zero d e h = refl
+same_default (x ∷ xs) (suc i) d e h = same_default xs i d e (omega (arith, h))
+
+module _ (bounds : List ℤ) (rises : Rises bounds) where
+  at : ℕ → ℤ
+  at i = slice_index_or bounds i (pos 0)
+
+  no_less : (i j : ℕ) → i ≤ j → j < length bounds → at i ≤ℤ at j
+  no_less i j h k = go (ℕ_discrete i j)
+    where
+      go : Dec (i ≡ j) → at i ≤ℤ at j
+      go (yes e) = subst (λ n. at i ≤ℤ at n) e (omega (arith, ints))
+      go (no ne) = let less = rises i j (omega (arith, h, ne)) k in omega (arith, ints, less)
+
+  -- a bound of the list is that of an index
+  place_of : (x : ℤ) → Contains bounds x → (m : ℕ) × (m < length bounds) × (at m ≡ x)
+  place_of x (m, lt, e) = (m, lt, same_default bounds m (pos 0) _ lt ∙ e)
+
+  -- where a bound is no less than that of an index before, the next bound is at most that
+  tight_from : (j : ℕ) (b : Option ℤ) → IsBoundOf bounds b → ((x : ℤ) → b ≡ Some x → (m : ℕ) → m < length bounds → at m ≡ x → j ≤ m) → IsTighter (slice_get bounds j) b
+  tight_from j None h low = tighter_none (slice_get bounds j)
+    where
+      tighter_none : (a : Option ℤ) → IsTighter a None
+      tighter_none None = tt
+      tighter_none (Some x) = tt
+  tight_from j (Some x) h low =
+      let p = place_of x h in
+      let le = low x refl p.0 p.1 p.2 in
+      let less = no_less j p.0 le p.1 in
+      subst (λ a. IsTighter a (Some x)) (sym (get_some bounds j (pos 0) (omega (arith, le, p.1)))) (subst (λ z. at j ≤ℤ z) p.2 less)
+
+  -- ---- the start
+
+  least_below : (forms : List Form) (rows : List Row) → HaveBounds bounds rows → AtMost bounds (replicate (length forms) 0) rows
+  least_below [] rows h = tt
+  least_below (f ∷ forms) [] h = tt
+  least_below (f ∷ forms) (row ∷ rows) h = (tight_from 0 row.bound h.0 (λ x e m lt is. omega arith), least_below forms rows h.1)
+
+  start_below : (forms : List Form) (q : LoopPoint) → IsOf bounds forms q → IsBelow bounds (at_bottom forms) q
+  start_below forms Bottom h = refl
+  start_below forms (Rows rows) h = least_below forms rows h.1
+
+  starts_below : (all : List (List Form)) (q : List LoopPoint) → AreOf bounds all q → AreBelow bounds (map at_bottom all) q
+  starts_below [] q h = tt
+  starts_below (forms ∷ all) [] h = tt
+  starts_below (forms ∷ all) (q ∷ qs) h = (start_below forms q h.0, starts_below all qs h.1)
+
+  starts_fit : (all : List (List Form)) → AreFit (map at_bottom all)
+  starts_fit [] = tt
+  starts_fit (forms ∷ all) = (length-replicate (length forms) 0, starts_fit all)
+
+  start_forms : (all : List (List Form)) → forms_of (map at_bottom all) ≡ all
+  start_forms [] = refl
+  start_forms (forms ∷ all) = ap (λ xs. forms ∷ xs) (start_forms all)
+
+  pub starts : (Infers : List LoopPoint → Type 0) (all : List (List Form)) → IsSearching Infers bounds (map at_bottom all)
+  starts Infers all = record { fit = starts_fit all; below = λ q h i. starts_below all q (subst (λ a. AreOf bounds a q) (start_forms all) h) }
+
+  -- ---- the end
+
+  rows_forms : (fs : List Form) (is : List ℕ) → length is ≡ length fs → map (λ row. row.form) (rows_of bounds fs is) ≡ fs
+  rows_forms [] is e = refl
+  rows_forms (f ∷ fs) [] e = absurd (omega (arith, e))
+  rows_forms (f ∷ fs) (i ∷ is) e = ap (λ xs. f ∷ xs) (rows_forms fs is (omega (arith, e)))
+
+  bound_of : (i : ℕ) → IsBoundOf bounds (slice_get bounds i)
+  bound_of i = go (dec_lt i (length bounds))
+    where
+      go : Dec (i < length bounds) → IsBoundOf bounds (slice_get bounds i)
+      go (yes lt) = subst (λ a. IsBoundOf bounds a) (sym (get_some bounds i (pos 0) lt)) (i, lt, same_default bounds i _ (pos 0) lt)
+      go (no ge) = subst (λ a. IsBoundOf bounds a) (sym (get_none bounds i (omega (arith, ge)))) tt
+
+  rows_bounds : (fs : List Form) (is : List ℕ) → HaveBounds bounds (rows_of bounds fs is)
+  rows_bounds [] is = tt
+  rows_bounds (f ∷ fs) [] = tt
+  rows_bounds (f ∷ fs) (i ∷ is) = (bound_of i, rows_bounds fs is)
+
+  spot_of : (s : Spot) → length s.indexes ≡ length s.forms → IsOf bounds s.forms (spot_point bounds s)
+  spot_of s e = go s.reached
+    where
+      go : (b : Bool) → IsOf bounds s.forms (if b then Rows (rows_of bounds s.forms s.indexes) else Bottom)
+      go true = (rows_forms s.forms s.indexes e, rows_bounds s.forms s.indexes)
+      go false = tt
+
+  pub point_is : (spots : List Spot) → AreFit spots → AreOf bounds (forms_of spots) (point_of bounds spots)
+  point_is [] h = tt
+  point_is (s ∷ spots) h = (spot_of s h.0, point_is spots h.1)
+
+  -- rows below those of a point are the stronger ones
+  tightens : (fs : List Form) (is : List ℕ) (bs : List Row) → map (λ row. row.form) bs ≡ fs → length is ≡ length fs → AtMost bounds is bs → (row : Row) (k : ℕ) → k < length bs → get_or bs k row ≡ row → Tightens (rows_of bounds fs is) row
+  tightens fs is [] e l h row k lt at = absurd (omega (arith, lt))
+  tightens [] is (b ∷ bs) e l h row k lt at = let c : suc (length (map (λ (r : Row). r.form) bs)) ≡ 0 = ap length e in absurd (omega (arith, c))
+  tightens (f ∷ fs) [] (b ∷ bs) e l h row k lt at = absurd (omega (arith, l))
+  tightens (f ∷ fs) (i ∷ is) (b ∷ bs) e l h row zero lt at =
+      let form : b.form ≡ f = ap (λ xs. get_or xs 0 no_form) e in
+      (row_of f (slice_get bounds i), (0, omega arith, refl), sym form ∙ ap (λ (r : Row). r.form) at, subst (λ (r : Row). IsTighter (slice_get bounds i) r.bound) at h.0)
+  tightens (f ∷ fs) (i ∷ is) (b ∷ bs) e l h row (suc k) lt at =
+      let r = tightens fs is bs (ap (λ xs. tail xs) e) (omega (arith, l)) h.1 row k (omega (arith, lt)) at in
+      (r.0, (suc r.1.0, omega (arith, r.1.1), r.1.2), r.2, r.3)
+    where
+      tail : List Form → List Form
+      tail [] = []
+      tail (x ∷ xs) = xs
+
+  spot_stronger : (s : Spot) (q : LoopPoint) → length s.indexes ≡ length s.forms → IsOf bounds s.forms q → IsBelow bounds s q → IsStrongerAt (spot_point bounds s) q
+  spot_stronger s q e of below = go s.reached refl q of below
+    where
+      go : (b : Bool) → s.reached ≡ b → (q : LoopPoint) → IsOf bounds s.forms q → IsBelow bounds s q → IsStrongerAt (if b then Rows (rows_of bounds s.forms s.indexes) else Bottom) q
+      go false r q of below = tt
+      go true r Bottom of below = let c : true ≡ false = sym r ∙ below in cc
+      go true r (Rows rows) of below = λ row (k, lt, at) x is. tightens s.forms s.indexes rows of.0 e below row k lt at
+
+  pub below_stronger : (spots : List Spot) (q : List LoopPoint) → AreFit spots → AreOf bounds (forms_of spots) q → AreBelow bounds spots q → IsStronger (point_of bounds spots) q
+  below_stronger [] [] fit of below = tt
+  below_stronger [] (q ∷ qs) fit of below = absurd of
+  below_stronger (s ∷ spots) [] fit of below = absurd of
+  below_stronger (s ∷ spots) (q ∷ qs) fit of below = (spot_stronger s q fit.0 of.0 below.0, below_stronger spots qs fit.1 of.1 below.1)
+
+  pub ends : (Infers : List LoopPoint → Type 0) (spots : List Spot) → IsSearching Infers bounds spots → Infers (point_of bounds spots) → IsStrongestOf Infers bounds (forms_of spots) (point_of bounds spots)
+  ends Infers spots s infers = record { point = point_is spots s.fit; infers = infers; strongest = λ q of i. below_stronger spots q s.fit of (s.below q of i) }
