@@ -17,7 +17,7 @@ use Rattle.l2_templates.specs.Points.{IsTighter, Tightens, BoundsAll, IsStronger
 use Rattle.l2_cuts.specs.Points.{point_at}
 use Rattle.l2_cuts.specs.Strongest.{IsBoundOf, HaveBounds}
 use Rattle.l2_strategy.specs.Asking.{IsBounded, IsFailedAt, IsFailed}
-use Rattle.l2_strategy.specs.Places.{IsOf, AreOf, IsStrongestOf, Spot, forms_of, at_bottom, rows_of, spot_point, point_of, AtMost, IsBelow, AreBelow, AreFit, IsSearching}
+use Rattle.l2_strategy.specs.Places.{IsOf, AreOf, IsStrongestOf, Spot, forms_of, at_bottom, rows_of, spot_point, point_of, AtMost, IsBelow, AreBelow, AreFit, IsSearching, left_of, left}
 
 -- ---- bounds
 
@@ -36,16 +36,35 @@ same_default [] i d e h = absurd (omega (arith, h))
 same_default (x ∷ xs) zero d e h = refl
 same_default (x ∷ xs) (suc i) d e h = same_default xs i d e (omega (arith, h))
 
+same_le : (z : ℤ) → z ≤ℤ z
+same_le z = omega (arith, ints)
+
+less_le : (y z : ℤ) → y <ℤ z → y ≤ℤ z
+less_le y z h = omega (arith, ints, h)
+
+fit_head : (s : Spot) (spots : List Spot) → AreFit (s ∷ spots) → length s.indexes ≡ length s.forms
+fit_head s spots h = h 0 s (omega arith)
+
+fit_tail : (s : Spot) (spots : List Spot) → AreFit (s ∷ spots) → AreFit spots
+fit_tail s spots h = λ i d lt. h (suc i) d (omega (arith, lt))
+
+fit_more : (s : Spot) (spots : List Spot) → length s.indexes ≡ length s.forms → AreFit spots → AreFit (s ∷ spots)
+fit_more s spots e h = at_index
+  where
+    at_index : AreFit (s ∷ spots)
+    at_index zero d lt = e
+    at_index (suc i) d lt = h i d (omega (arith, lt))
+
 module _ (bounds : List ℤ) (rises : Rises bounds) where
-  at : ℕ → ℤ
+  abbrev at : ℕ → ℤ
   at i = slice_index_or bounds i (pos 0)
 
   no_less : (i j : ℕ) → i ≤ j → j < length bounds → at i ≤ℤ at j
   no_less i j h k = go (ℕ_discrete i j)
     where
       go : Dec (i ≡ j) → at i ≤ℤ at j
-      go (yes e) = subst (λ n. at i ≤ℤ at n) e (omega (arith, ints))
-      go (no ne) = let less = rises i j (omega (arith, h, ne)) k in omega (arith, ints, less)
+      go (yes e) = subst (λ n. at i ≤ℤ at n) e (same_le (at i))
+      go (no ne) = less_le (at i) (at j) (rises i j (omega (arith, h, ne)) k)
 
   -- a bound of the list is that of an index
   place_of : (x : ℤ) → Contains bounds x → (m : ℕ) × (m < length bounds) × (at m ≡ x)
@@ -81,8 +100,8 @@ module _ (bounds : List ℤ) (rises : Rises bounds) where
   starts_below (forms ∷ all) (q ∷ qs) h = (start_below forms q h.0, starts_below all qs h.1)
 
   starts_fit : (all : List (List Form)) → AreFit (map at_bottom all)
-  starts_fit [] = tt
-  starts_fit (forms ∷ all) = (length-replicate (length forms) 0, starts_fit all)
+  starts_fit [] = λ i d lt. absurd (omega (arith, lt))
+  starts_fit (forms ∷ all) = fit_more (at_bottom forms) (map at_bottom all) (length-replicate (length forms) 0) (starts_fit all)
 
   start_forms : (all : List (List Form)) → forms_of (map at_bottom all) ≡ all
   start_forms [] = refl
@@ -119,7 +138,7 @@ module _ (bounds : List ℤ) (rises : Rises bounds) where
 
   pub point_is : (spots : List Spot) → AreFit spots → AreOf bounds (forms_of spots) (point_of bounds spots)
   point_is [] h = tt
-  point_is (s ∷ spots) h = (spot_of s h.0, point_is spots h.1)
+  point_is (s ∷ spots) h = (spot_of s (fit_head s spots h), point_is spots (fit_tail s spots h))
 
   -- rows below those of a point are the stronger ones
   tightens : (fs : List Form) (is : List ℕ) (bs : List Row) → map (λ row. row.form) bs ≡ fs → length is ≡ length fs → AtMost bounds is bs → (row : Row) (k : ℕ) → k < length bs → get_or bs k row ≡ row → Tightens (rows_of bounds fs is) row
@@ -149,7 +168,50 @@ module _ (bounds : List ℤ) (rises : Rises bounds) where
   below_stronger [] [] fit of below = tt
   below_stronger [] (q ∷ qs) fit of below = absurd of
   below_stronger (s ∷ spots) [] fit of below = absurd of
-  below_stronger (s ∷ spots) (q ∷ qs) fit of below = (spot_stronger s q fit.0 of.0 below.0, below_stronger spots qs fit.1 of.1 below.1)
+  below_stronger (s ∷ spots) (q ∷ qs) fit of below = (spot_stronger s q (fit_head s spots fit) of.0 below.0, below_stronger spots qs (fit_tail s spots fit) of.1 below.1)
 
   pub ends : (Infers : List LoopPoint → Type 0) (spots : List Spot) → IsSearching Infers bounds spots → Infers (point_of bounds spots) → IsStrongestOf Infers bounds (forms_of spots) (point_of bounds spots)
   ends Infers spots s infers = record { point = point_is spots s.fit; infers = infers; strongest = λ q of i. below_stronger spots q s.fit of (s.below q of i) }
+
+-- ---- raising
+
+-- of a list of forms: which spots they leave as they are
+same_forms : (spots : List Spot) (i : ℕ) (s d : Spot) → s.forms ≡ (slice_index_or spots i d).forms → forms_of (slice_set spots i s) ≡ forms_of spots
+same_forms [] i s d e = refl
+same_forms (x ∷ xs) zero s d e = ap (λ f. f ∷ forms_of xs) e
+same_forms (x ∷ xs) (suc i) s d e = ap (λ fs. x.forms ∷ fs) (same_forms xs i s d e)
+
+set_fit : (spots : List Spot) (i : ℕ) (s : Spot) → length s.indexes ≡ length s.forms → AreFit spots → AreFit (slice_set spots i s)
+set_fit [] i s e h = h
+set_fit (x ∷ xs) zero s e h = fit_more s xs e (fit_tail x xs h)
+set_fit (x ∷ xs) (suc i) s e h = fit_more x (slice_set xs i s) (fit_head x xs h) (set_fit xs i s e (fit_tail x xs h))
+
+set_below : (bounds : List ℤ) (spots : List Spot) (i : ℕ) (s d : Spot) (q : List LoopPoint) → (IsBelow bounds (slice_index_or spots i d) (point_at q (suc i)) → i < length q → IsBelow bounds s (point_at q (suc i))) → AreBelow bounds spots q → AreBelow bounds (slice_set spots i s) q
+set_below bounds [] i s d q new h = h
+set_below bounds (x ∷ xs) zero s d [] new h = tt
+set_below bounds (x ∷ xs) (suc i) s d [] new h = tt
+set_below bounds (x ∷ xs) zero s d (q ∷ qs) new h = (new h.0 (omega arith), h.1)
+set_below bounds (x ∷ xs) (suc i) s d (q ∷ qs) new h = (h.0, set_below bounds xs i s d qs (λ b lt. new b (omega (arith, lt))) h.1)
+
+at_most_set : (bounds : List ℤ) (is : List ℕ) (rows : List Row) (r j : ℕ) → ((row : Row) → slice_get rows r ≡ Some row → IsTighter (slice_get bounds j) row.bound) → AtMost bounds is rows → AtMost bounds (slice_set is r j) rows
+at_most_set bounds [] rows r j new h = tt
+at_most_set bounds (i ∷ is) [] zero j new h = tt
+at_most_set bounds (i ∷ is) [] (suc r) j new h = tt
+at_most_set bounds (i ∷ is) (row ∷ rows) zero j new h = (new row refl, h.1)
+at_most_set bounds (i ∷ is) (row ∷ rows) (suc r) j new h = (h.0, at_most_set bounds is rows r j new h.1)
+
+left_reach : (most : ℕ) (spots : List Spot) (i : ℕ) (d : Spot) → i < length spots → (slice_index_or spots i d).reached ≡ false → left most (slice_set spots i (record (slice_index_or spots i d) { reached = true })) < left most spots
+left_reach most [] i d lt e = absurd (omega (arith, lt))
+left_reach most (x ∷ xs) zero d lt e = let s : (if x.reached then 0 else 1) ≡ 1 = ap (λ b. if b then 0 else 1) e in omega (arith, s)
+left_reach most (x ∷ xs) (suc i) d lt e = let k = left_reach most xs i d (omega (arith, lt)) e in omega (arith, k)
+
+left_index : (most : ℕ) (is : List ℕ) (r j : ℕ) → r < length is → slice_index_or is r 0 < j → j ≤ most → left_of most (slice_set is r j) < left_of most is
+left_index most [] r j lt up le = absurd (omega (arith, lt))
+left_index most (i ∷ is) zero j lt up le = omega (arith, up, le)
+left_index most (i ∷ is) (suc r) j lt up le = let k = left_index most is r j (omega (arith, lt)) up le in omega (arith, k)
+
+left_raise : (most : ℕ) (spots : List Spot) (i : ℕ) (d : Spot) (r j : ℕ) → i < length spots → r < length (slice_index_or spots i d).indexes → slice_index_or (slice_index_or spots i d).indexes r 0 < j → j ≤ most →
+    left most (slice_set spots i (record (slice_index_or spots i d) { indexes = slice_set (slice_index_or spots i d).indexes r j })) < left most spots
+left_raise most [] i d r j lt inside up le = absurd (omega (arith, lt))
+left_raise most (x ∷ xs) zero d r j lt inside up le = let k = left_index most x.indexes r j inside up le in omega (arith, k)
+left_raise most (x ∷ xs) (suc i) d r j lt inside up le = let k = left_raise most xs i d r j (omega (arith, lt)) inside up le in omega (arith, k)

@@ -1,5 +1,6 @@
 -- Where the search for the strongest point stands.
 use Rattle.std.specs.Prelude.{◌≡◌, ℕ, ℤ, ◌+◌, ◌-◌, Bool, false, if◌then◌else◌, List, [], ◌∷◌, length, map, replicate, slice_get}
+use Rattle.std.specs.List.{All}
 use Rattle.l2_templates.specs.declared.form.Form.{Form}
 use Rattle.l2_templates.specs.declared.form.Row.{Row}
 use Rattle.l2_templates.specs.declared.point.LoopPoint.{LoopPoint}
@@ -82,8 +83,7 @@ AreBelow bounds (s ∷ spots) (q ∷ qs) = IsBelow bounds s q × AreBelow bounds
 
 -- an index for each form
 abbrev pub AreFit : List Spot → Type 0
-AreFit [] = Unit {0}
-AreFit (s ∷ spots) = (length s.indexes ≡ length s.forms) × AreFit spots
+AreFit spots = All (λ s. length s.indexes ≡ length s.forms) spots
 
 -- the search is below each point that infers
 pub record IsSearching (Infers : List LoopPoint → Type 0) (bounds : List ℤ) (spots : List Spot) : Type 0 where
