@@ -59,7 +59,7 @@ module _ (bounds : List ℤ) (rises : Rises bounds) where
   abbrev at : ℕ → ℤ
   at i = slice_index_or bounds i (pos 0)
 
-  no_less : (i j : ℕ) → i ≤ j → j < length bounds → at i ≤ℤ at j
+  pub no_less : (i j : ℕ) → i ≤ j → j < length bounds → at i ≤ℤ at j
   no_less i j h k = go (ℕ_discrete i j)
     where
       go : Dec (i ≡ j) → at i ≤ℤ at j
@@ -71,7 +71,7 @@ module _ (bounds : List ℤ) (rises : Rises bounds) where
   place_of x (m, lt, e) = (m, lt, same_default bounds m (pos 0) _ lt ∙ e)
 
   -- where a bound is no less than that of an index before, the next bound is at most that
-  tight_from : (j : ℕ) (b : Option ℤ) → IsBoundOf bounds b → ((x : ℤ) → b ≡ Some x → (m : ℕ) → m < length bounds → at m ≡ x → j ≤ m) → IsTighter (slice_get bounds j) b
+  pub tight_from : (j : ℕ) (b : Option ℤ) → IsBoundOf bounds b → ((x : ℤ) → b ≡ Some x → (m : ℕ) → m < length bounds → at m ≡ x → j ≤ m) → IsTighter (slice_get bounds j) b
   tight_from j None h low = tighter_none (slice_get bounds j)
     where
       tighter_none : (a : Option ℤ) → IsTighter a None
@@ -200,9 +200,12 @@ at_most_set bounds (i ∷ is) [] (suc r) j new h = tt
 at_most_set bounds (i ∷ is) (row ∷ rows) zero j new h = (new row refl, h.1)
 at_most_set bounds (i ∷ is) (row ∷ rows) (suc r) j new h = (h.0, at_most_set bounds is rows r j new h.1)
 
+abbrev cost : Bool → ℕ
+cost b = if b then 0 else 1
+
 left_reach : (most : ℕ) (spots : List Spot) (i : ℕ) (d : Spot) → i < length spots → (slice_index_or spots i d).reached ≡ false → left most (slice_set spots i (record (slice_index_or spots i d) { reached = true })) < left most spots
 left_reach most [] i d lt e = absurd (omega (arith, lt))
-left_reach most (x ∷ xs) zero d lt e = let s : (if x.reached then 0 else 1) ≡ 1 = ap (λ b. if b then 0 else 1) e in omega (arith, s)
+left_reach most (x ∷ xs) zero d lt e = let s : cost x.reached ≡ cost false = ap cost e in omega (arith, s)
 left_reach most (x ∷ xs) (suc i) d lt e = let k = left_reach most xs i d (omega (arith, lt)) e in omega (arith, k)
 
 left_index : (most : ℕ) (is : List ℕ) (r j : ℕ) → r < length is → slice_index_or is r 0 < j → j ≤ most → left_of most (slice_set is r j) < left_of most is
@@ -215,3 +218,60 @@ left_raise : (most : ℕ) (spots : List Spot) (i : ℕ) (d : Spot) (r j : ℕ) �
 left_raise most [] i d r j lt inside up le = absurd (omega (arith, lt))
 left_raise most (x ∷ xs) zero d r j lt inside up le = let k = left_index most x.indexes r j inside up le in omega (arith, k)
 left_raise most (x ∷ xs) (suc i) d r j lt inside up le = let k = left_raise most xs i d r j (omega (arith, lt)) inside up le in omega (arith, k)
+
+-- ---- what a question tells
+
+-- what questions mean, at one problem
+module _ (bounds : List ℤ) (rises : Rises bounds) (Infers : List LoopPoint → Type 0) (Exceeds : List LoopPoint → ℕ → ℕ → ℤ → Type 0) (lower_law : (q : List LoopPoint) (l row : ℕ) (a b : ℤ) → b ≤ℤ a → Exceeds q l row a → Exceeds q l row b) (below_law : (a b : List LoopPoint) → IsStronger a b → Infers b → (l row : ℕ) (above : ℤ) → IsBounded (point_at b l) row above → ¬ Exceeds a l row above) (spots : List Spot) (searching : IsSearching Infers bounds spots) where
+  abbrev here : List LoopPoint
+  here = point_of bounds spots
+
+  stronger : (q : List LoopPoint) → AreOf bounds (forms_of spots) q → Infers q → IsStronger here q
+  stronger q of i = below_stronger bounds rises spots q searching.fit of (searching.below q of i)
+
+  of_index : (all : List (List Form)) (q : List LoopPoint) (i : ℕ) → AreOf bounds all q → (rows : List Row) → point_at q (suc i) ≡ Rows rows → HaveBounds bounds rows
+  of_index [] [] i of rows e = cc
+  of_index [] (q ∷ qs) i of rows e = absurd of
+  of_index (forms ∷ all) [] i of rows e = absurd of
+  of_index (forms ∷ all) (q ∷ qs) zero of rows e = bounds_of q of.0 e
+    where
+      bounds_of : (q : LoopPoint) → IsOf bounds forms q → q ≡ Rows rows → HaveBounds bounds rows
+      bounds_of q h e = (subst (λ x. IsOf bounds forms x) e h).1
+  of_index (forms ∷ all) (q ∷ qs) (suc i) of rows e = of_index all qs i of.1 rows e
+
+  bound_at : (rows : List Row) (r : ℕ) (row : Row) → HaveBounds bounds rows → slice_get rows r ≡ Some row → IsBoundOf bounds row.bound
+  bound_at [] r row h e = cc
+  bound_at (x ∷ rows) zero row h e = subst (λ (y : Row). IsBoundOf bounds y.bound) (first x row e) h.0
+    where
+      first : (x y : Row) → Some x ≡ Some y → x ≡ y
+      first x y e = cc
+  bound_at (x ∷ rows) (suc r) row h e = bound_at rows r row h.1 e
+
+  -- a loop is left at Bottom where some run came to an end of a turn
+  pub reached_below : (i : ℕ) (d : Spot) → ((above : ℤ) → Exceeds here (suc i) 0 above) → (q : List LoopPoint) → AreOf bounds (forms_of spots) q → Infers q →
+      AreBelow bounds (slice_set spots i (record (slice_index_or spots i d) { reached = true })) q
+  reached_below i d comes q of infers = set_below bounds spots i (record (slice_index_or spots i d) { reached = true }) d q (λ b lt. new (point_at q (suc i)) refl b) (searching.below q of infers)
+    where
+      new : (x : LoopPoint) → point_at q (suc i) ≡ x → IsBelow bounds (slice_index_or spots i d) x → IsBelow bounds (record (slice_index_or spots i d) { reached = true }) x
+      new Bottom e b = absurd (below_law here q (stronger q of infers) infers (suc i) 0 (pos 0) (subst (λ x. IsBounded x 0 (pos 0)) (sym e) tt) (comes (pos 0)))
+      new (Rows rows) e b = b
+
+  -- a row is raised to an index whose bound before some run exceeds
+  pub raised_below : (i r j : ℕ) (d : Spot) → 0 < j → j ≤ length bounds → Exceeds here (suc i) (suc r) (slice_index_or bounds (j - 1) (pos 0)) → (q : List LoopPoint) → AreOf bounds (forms_of spots) q → Infers q →
+      AreBelow bounds (slice_set spots i (record (slice_index_or spots i d) { indexes = slice_set (slice_index_or spots i d).indexes r j })) q
+  raised_below i r j d some most exceeds q of infers = set_below bounds spots i _ d q (λ b lt. new (point_at q (suc i)) refl b) (searching.below q of infers)
+    where
+      low : (rows : List Row) → point_at q (suc i) ≡ Rows rows → (row : Row) → slice_get rows r ≡ Some row → (x : ℤ) → row.bound ≡ Some x → (m : ℕ) → m < length bounds → slice_index_or bounds m (pos 0) ≡ x → j ≤ m
+      low rows e row is x has m lt at_m = go (dec_lt m j)
+        where
+          go : Dec (m < j) → j ≤ m
+          go (no ge) = omega (arith, ge)
+          go (yes less) =
+              let le = no_less bounds rises m (j - 1) (omega (arith, less)) (omega (arith, most, some)) in
+              let more = lower_law here (suc i) (suc r) (slice_index_or bounds (j - 1) (pos 0)) x (subst (λ z. z ≤ℤ slice_index_or bounds (j - 1) (pos 0)) at_m le) exceeds in
+              absurd (below_law here q (stronger q of infers) infers (suc i) (suc r) x (subst (λ y. IsBounded y (suc r) x) (sym e) (row, is, has)) more)
+
+      new : (x : LoopPoint) → point_at q (suc i) ≡ x → IsBelow bounds (slice_index_or spots i d) x → IsBelow bounds (record (slice_index_or spots i d) { indexes = slice_set (slice_index_or spots i d).indexes r j }) x
+      new Bottom e b = b
+      new (Rows rows) e b =
+          at_most_set bounds (slice_index_or spots i d).indexes rows r j (λ row is. tight_from bounds rises j row.bound (bound_at rows r row (of_index (forms_of spots) q i of rows e) is) (low rows e row is)) b
