@@ -275,3 +275,68 @@ module _ (bounds : List ℤ) (rises : Rises bounds) (Infers : List LoopPoint →
       new Bottom e b = b
       new (Rows rows) e b =
           at_most_set bounds (slice_index_or spots i d).indexes rows r j (λ row is. tight_from bounds rises j row.bound (bound_at rows r row (of_index (forms_of spots) q i of rows e) is) (low rows e row is)) b
+
+-- ---- the place that fails
+
+point_index : (bounds : List ℤ) (spots : List Spot) (i : ℕ) (d : Spot) → i < length spots → point_at (point_of bounds spots) (suc i) ≡ spot_point bounds (slice_index_or spots i d)
+point_index bounds [] i d lt = absurd (omega (arith, lt))
+point_index bounds (x ∷ xs) zero d lt = refl
+point_index bounds (x ∷ xs) (suc i) d lt = point_index bounds xs i d (omega (arith, lt))
+
+pub point_long : (bounds : List ℤ) (spots : List Spot) → length (point_of bounds spots) ≡ length spots
+point_long bounds [] = refl
+point_long bounds (x ∷ xs) = let e = point_long bounds xs in omega (arith, e)
+
+-- at a loop that no run reached
+pub fails_bottom : (bounds : List ℤ) (Exceeds : ℕ → ℤ → Type 0) (s : Spot) (row : ℕ) → s.reached ≡ false → IsFailedAt Exceeds (spot_point bounds s) row → (above : ℤ) → Exceeds 0 above
+fails_bottom bounds Exceeds s row e h = (subst (λ b. IsFailedAt Exceeds (if b then Rows (rows_of bounds s.forms s.indexes) else Bottom) row) e h).1
+
+-- at one that some run reached: the row has an index with a bound, which some run exceeds
+pub record Raisable (bounds : List ℤ) (Exceeds : ℕ → ℤ → Type 0) (s : Spot) (row : ℕ) : Type 0 where
+  pub some : 1 ≤ row
+  pub inside : row - 1 < length s.indexes
+  pub bounded : slice_index_or s.indexes (row - 1) 0 < length bounds
+  pub exceeded : Exceeds row (slice_index_or bounds (slice_index_or s.indexes (row - 1) 0) (pos 0))
+
+row_index : (bounds : List ℤ) (fs : List Form) (is : List ℕ) (r : ℕ) (row : Row) (x : ℤ) → slice_get (rows_of bounds fs is) r ≡ Some row → row.bound ≡ Some x → (r < length is) × (slice_get bounds (slice_index_or is r 0) ≡ Some x)
+row_index bounds [] is r row x e b = let c : None ≡ Some row = e in cc
+row_index bounds (f ∷ fs) [] r row x e b = let c : None ≡ Some row = e in cc
+row_index bounds (f ∷ fs) (i ∷ is) zero row x e b = (omega arith, ap (λ (r : Row). r.bound) (first e) ∙ b)
+  where
+    first : Some (row_of f (slice_get bounds i)) ≡ Some row → row_of f (slice_get bounds i) ≡ row
+    first e = cc
+row_index bounds (f ∷ fs) (i ∷ is) (suc r) row x e b = let k = row_index bounds fs is r row x e b in (omega (arith, k.0), k.1)
+
+got : (bounds : List ℤ) (i : ℕ) (x : ℤ) → slice_get bounds i ≡ Some x → (i < length bounds) × (slice_index_or bounds i (pos 0) ≡ x)
+got [] i x e = let c : None ≡ Some x = e in cc
+got (y ∷ ys) zero x e = (omega arith, same e)
+  where
+    same : Some y ≡ Some x → y ≡ x
+    same e = cc
+got (y ∷ ys) (suc i) x e = let k = got ys i x e in (omega (arith, k.0), k.1)
+
+pub fails_row : (bounds : List ℤ) (Exceeds : ℕ → ℤ → Type 0) (s : Spot) (row : ℕ) → s.reached ≡ true → IsFailedAt Exceeds (spot_point bounds s) row → Raisable bounds Exceeds s row
+fails_row bounds Exceeds s row e h = go row (subst (λ b. IsFailedAt Exceeds (if b then Rows (rows_of bounds s.forms s.indexes) else Bottom) row) e h)
+  where
+    go : (row : ℕ) → IsFailedAt Exceeds (Rows (rows_of bounds s.forms s.indexes)) row → Raisable bounds Exceeds s row
+    go zero (bound, (r, is, has), exceeds) = let c : None ≡ Some r = is in cc
+    go (suc n) (bound, (r, is, has), exceeds) =
+        let k = row_index bounds s.forms s.indexes n r bound is has in
+        let m = got bounds (slice_index_or s.indexes n 0) bound k.1 in
+        let same : suc n - 1 ≡ n = omega arith in
+        record {
+          some = omega arith;
+          inside = omega (arith, k.0);
+          bounded = subst (λ j. slice_index_or s.indexes j 0 < length bounds) (sym same) m.0;
+          exceeded = subst (λ j. Exceeds (suc n) (slice_index_or bounds (slice_index_or s.indexes j 0) (pos 0))) (sym same) (subst (λ z. Exceeds (suc n) z) (sym m.1) exceeds);
+        }
+
+pub failed_at : (bounds : List ℤ) (spots : List Spot) (d : Spot) (Exceeds : ℕ → ℕ → ℤ → Type 0) (q : List LoopPoint) (l row : ℕ) → q ≡ point_of bounds spots → IsFailed Exceeds q l row → (l - 1 < length spots) × IsFailedAt (Exceeds l) (spot_point bounds (slice_index_or spots (l - 1) d)) row
+failed_at bounds spots d Exceeds q zero row e h = let c = h.some in absurd (omega (arith, c))
+failed_at bounds spots d Exceeds q (suc i) row e h =
+    let long : length q ≡ length spots = ap length e ∙ point_long bounds spots in
+    let inside : i < length spots = omega (arith, long, h.within) in
+    let same : suc i - 1 ≡ i = omega arith in
+    (omega (arith, inside),
+    subst (λ j. IsFailedAt (Exceeds (suc i)) (spot_point bounds (slice_index_or spots j d)) row) (sym same)
+    (subst (λ x. IsFailedAt (Exceeds (suc i)) x row) (point_index bounds spots i d inside) (subst (λ x. IsFailedAt (Exceeds (suc i)) (point_at x (suc i)) row) e h.fails)))

@@ -7,4 +7,4 @@ mod places;
 mod search;
 
 pub use asks::{Asks, BrokenRow};
-
+pub use search::strongest;
