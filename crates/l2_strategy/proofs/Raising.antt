@@ -4,6 +4,7 @@ use Rattle.std.specs.Prelude.{slice_get, slice_set, slice_index_or}
 use Rattle.std.specs.List.{Contains}
 use Rattle.std.proofs.lemmas.Int.{ints}
 use Rattle.std.proofs.lemmas.List.{length-replicate}
+use Rattle.std.proofs.Math.ListN.{length-set}
 use native.Mathlib.Decide.{dec_lt, ℕ_discrete}
 use Rattle.l2_runs.specs.Numbers.{at_number}
 use Rattle.l2_templates.specs.declared.form.Form.{Form}
@@ -340,3 +341,73 @@ failed_at bounds spots d Exceeds q (suc i) row e h =
     (omega (arith, inside),
     subst (λ j. IsFailedAt (Exceeds (suc i)) (spot_point bounds (slice_index_or spots j d)) row) (sym same)
     (subst (λ x. IsFailedAt (Exceeds (suc i)) x row) (point_index bounds spots i d inside) (subst (λ x. IsFailedAt (Exceeds (suc i)) (point_at x (suc i)) row) e h.fails)))
+
+-- ---- steps
+
+pub record Stepped (Infers : List LoopPoint → Type 0) (bounds : List ℤ) (old new : List Spot) : Type 0 where
+  pub searching : IsSearching Infers bounds new
+  pub forms : forms_of new ≡ forms_of old
+  pub left : left (length bounds) new < left (length bounds) old
+
+module _ (bounds : List ℤ) (rises : Rises bounds) (Infers : List LoopPoint → Type 0) (Exceeds : List LoopPoint → ℕ → ℕ → ℤ → Type 0) (lower_law : (q : List LoopPoint) (l row : ℕ) (a b : ℤ) → b ≤ℤ a → Exceeds q l row a → Exceeds q l row b) (below_law : (a b : List LoopPoint) → IsStronger a b → Infers b → (l row : ℕ) (above : ℤ) → IsBounded (point_at b l) row above → ¬ Exceeds a l row above) (spots : List Spot) (searching : IsSearching Infers bounds spots) where
+  reach_at : (i row : ℕ) (d : Spot) → i < length spots → IsFailedAt (Exceeds (point_of bounds spots) (suc i)) (spot_point bounds (slice_index_or spots i d)) row → (slice_index_or spots i d).reached ≡ false →
+      Stepped Infers bounds spots (slice_set spots i (record (slice_index_or spots i d) { reached = true }))
+  reach_at i row d lt fails no' = record {
+    searching = record {
+      fit = set_fit spots i (record (slice_index_or spots i d) { reached = true }) (searching.fit i d lt) searching.fit;
+      below = λ q of infers. reached_below bounds rises Infers Exceeds lower_law below_law spots searching i d (fails_bottom bounds (Exceeds (point_of bounds spots) (suc i)) (slice_index_or spots i d) row no' fails) q (subst (λ a. AreOf bounds a q) same of) infers;
+    };
+    forms = same;
+    left = left_reach (length bounds) spots i d lt no';
+  }
+    where
+      same : forms_of (slice_set spots i (record (slice_index_or spots i d) { reached = true })) ≡ forms_of spots
+      same = same_forms spots i (record (slice_index_or spots i d) { reached = true }) d refl
+
+  pub reach_step : (d s' : Spot) (q : List LoopPoint) (l row : ℕ) → q ≡ point_of bounds spots → IsFailed (Exceeds q) q l row → s' ≡ record (slice_index_or spots (l - 1) d) { reached = true } → (slice_index_or spots (l - 1) d).reached ≡ false → Stepped Infers bounds spots (slice_set spots (l - 1) s')
+  reach_step d s' q zero row e failed is no' = let c = failed.some in absurd (omega (arith, c))
+  reach_step d s' q (suc i) row e failed is no' =
+      let at' = failed_at bounds spots d (Exceeds q) q (suc i) row e failed in
+      let n : suc i - 1 ≡ i = omega arith in
+      let fails = subst (λ j. IsFailedAt (Exceeds q (suc i)) (spot_point bounds (slice_index_or spots j d)) row) n at'.1 in
+      let here = subst (λ x. IsFailedAt (Exceeds x (suc i)) (spot_point bounds (slice_index_or spots i d)) row) e fails in
+      let no'' = subst (λ j. (slice_index_or spots j d).reached ≡ false) n no' in
+      subst (λ x. Stepped Infers bounds spots (slice_set spots (suc i - 1) x)) (sym is)
+      (subst (λ j. Stepped Infers bounds spots (slice_set spots j (record (slice_index_or spots j d) { reached = true }))) (sym n) (reach_at i row d (omega (arith, at'.0)) here no''))
+
+  raise_at : (i r j : ℕ) (d : Spot) → i < length spots → r < length (slice_index_or spots i d).indexes → slice_index_or (slice_index_or spots i d).indexes r 0 < j → j ≤ length bounds → Exceeds (point_of bounds spots) (suc i) (suc r) (slice_index_or bounds (j - 1) (pos 0)) →
+      Stepped Infers bounds spots (slice_set spots i (record (slice_index_or spots i d) { indexes = slice_set (slice_index_or spots i d).indexes r j }))
+  raise_at i r j d lt inside up most exceeds = record {
+    searching = record {
+      fit = set_fit spots i (record (slice_index_or spots i d) { indexes = slice_set (slice_index_or spots i d).indexes r j }) d' searching.fit;
+      below = λ q of infers. raised_below bounds rises Infers Exceeds lower_law below_law spots searching i r j d (omega (arith, up)) most exceeds q (subst (λ a. AreOf bounds a q) same of) infers;
+    };
+    forms = same;
+    left = left_raise (length bounds) spots i d r j lt inside up most;
+  }
+    where
+      d' : length (slice_set (slice_index_or spots i d).indexes r j) ≡ length (slice_index_or spots i d).forms
+      d' = length-set (slice_index_or spots i d).indexes r j ∙ searching.fit i d lt
+
+      same : forms_of (slice_set spots i (record (slice_index_or spots i d) { indexes = slice_set (slice_index_or spots i d).indexes r j })) ≡ forms_of spots
+      same = same_forms spots i (record (slice_index_or spots i d) { indexes = slice_set (slice_index_or spots i d).indexes r j }) d refl
+
+  pub raisable : (d : Spot) (q : List LoopPoint) (l row : ℕ) → q ≡ point_of bounds spots → IsFailed (Exceeds q) q l row → (slice_index_or spots (l - 1) d).reached ≡ true → Raisable bounds (Exceeds q l) (slice_index_or spots (l - 1) d) row
+  raisable d q l row e failed yes' = fails_row bounds (Exceeds q l) (slice_index_or spots (l - 1) d) row yes' (failed_at bounds spots d (Exceeds q) q l row e failed).1
+
+  pub raise_step : (d s' : Spot) (q : List LoopPoint) (l row j : ℕ) → q ≡ point_of bounds spots → IsFailed (Exceeds q) q l row → (slice_index_or spots (l - 1) d).reached ≡ true → slice_index_or (slice_index_or spots (l - 1) d).indexes (row - 1) 0 < j → j ≤ length bounds → Exceeds q l row (slice_index_or bounds (j - 1) (pos 0)) →
+      s' ≡ record (slice_index_or spots (l - 1) d) { indexes = slice_set (slice_index_or spots (l - 1) d).indexes (row - 1) j } → Stepped Infers bounds spots (slice_set spots (l - 1) s')
+  raise_step d s' q zero row j e failed yes' up most exceeds is = let c = failed.some in absurd (omega (arith, c))
+  raise_step d s' q (suc i) zero j e failed yes' up most exceeds is = let c = (raisable d q (suc i) zero e failed yes').some in absurd (omega (arith, c))
+  raise_step d s' q (suc i) (suc r) j e failed yes' up most exceeds is =
+      let at' = failed_at bounds spots d (Exceeds q) q (suc i) (suc r) e failed in
+      let can = raisable d q (suc i) (suc r) e failed yes' in
+      let n : suc i - 1 ≡ i = omega arith in
+      let m : suc r - 1 ≡ r = omega arith in
+      let inside : r < length (slice_index_or spots i d).indexes = subst (λ y. y < length (slice_index_or spots i d).indexes) m (subst (λ x. suc r - 1 < length (slice_index_or spots x d).indexes) n can.inside) in
+      let up' : slice_index_or (slice_index_or spots i d).indexes r 0 < j = subst (λ y. slice_index_or (slice_index_or spots i d).indexes y 0 < j) m (subst (λ x. slice_index_or (slice_index_or spots x d).indexes (suc r - 1) 0 < j) n up) in
+      let here : Exceeds (point_of bounds spots) (suc i) (suc r) (slice_index_or bounds (j - 1) (pos 0)) = subst (λ x. Exceeds x (suc i) (suc r) (slice_index_or bounds (j - 1) (pos 0))) e exceeds in
+      subst (λ x. Stepped Infers bounds spots (slice_set spots (suc i - 1) x)) (sym is)
+      (subst (λ x. Stepped Infers bounds spots (slice_set spots x (record (slice_index_or spots x d) { indexes = slice_set (slice_index_or spots x d).indexes (suc r - 1) j }))) (sym n)
+      (subst (λ y. Stepped Infers bounds spots (slice_set spots i (record (slice_index_or spots i d) { indexes = slice_set (slice_index_or spots i d).indexes y j }))) (sym m)
+      (raise_at i r j d (omega (arith, at'.0)) inside up' most here)))
