@@ -411,3 +411,17 @@ module _ (bounds : List ℤ) (rises : Rises bounds) (Infers : List LoopPoint →
       (subst (λ x. Stepped Infers bounds spots (slice_set spots x (record (slice_index_or spots x d) { indexes = slice_set (slice_index_or spots x d).indexes (suc r - 1) j }))) (sym n)
       (subst (λ y. Stepped Infers bounds spots (slice_set spots i (record (slice_index_or spots i d) { indexes = slice_set (slice_index_or spots i d).indexes y j }))) (sym m)
       (raise_at i r j d (omega (arith, at'.0)) inside up' most here)))
+
+pub spot_same : (spots : List Spot) (i : ℕ) (a b : Spot) → i < length spots → a ≡ slice_index_or spots i a → b ≡ slice_index_or spots i b → a ≡ b
+spot_same [] i a b lt e f = absurd (omega (arith, lt))
+spot_same (x ∷ xs) zero a b lt e f = e ∙ sym f
+spot_same (x ∷ xs) (suc i) a b lt e f = spot_same xs i a b (omega (arith, lt)) e f
+
+-- a place that was seen twice, and reached
+pub can : (bounds : List ℤ) (Exceeds : ℕ → ℕ → ℤ → Type 0) (spots : List Spot) (q : List LoopPoint) (l row : ℕ) (seen again : Spot) → q ≡ point_of bounds spots → IsFailed Exceeds q l row →
+    seen ≡ slice_index_or spots (l - 1) seen → again ≡ slice_index_or spots (l - 1) again → true ≡ seen.reached → Raisable bounds (Exceeds l) again row
+can bounds Exceeds spots q l row seen again e failed es ea r =
+    let here = failed_at bounds spots again Exceeds q l row e failed in
+    let same = spot_same spots (l - 1) again seen here.0 ea es in
+    let fails = subst (λ (s : Spot). IsFailedAt (Exceeds l) (spot_point bounds s) row) (sym ea) here.1 in
+    fails_row bounds (Exceeds l) again row (ap (λ (s : Spot). s.reached) same ∙ sym r) fails
