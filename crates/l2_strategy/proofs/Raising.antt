@@ -1,12 +1,11 @@
 -- The search stays below each point that infers.
-use Rattle.std.proofs.Common.{◌≡◌, ℕ, zero, suc, ◌+◌, ◌-◌, ◌<◌, ◌≤◌, Bool, true, false, ℤ, pos, ◌≤ℤ◌, ◌<ℤ◌, List, [], ◌∷◌, length, get_or, map, replicate, Option, Some, None, ◌⊎◌, inl, inr, refl, sym, ap, ◌∙◌, subst, if◌then◌else◌, arith}
+use Rattle.std.proofs.Common.{◌≡◌, ℕ, zero, suc, ◌-◌, ◌<◌, ◌≤◌, Bool, true, false, ℤ, pos, ◌≤ℤ◌, ◌<ℤ◌, List, [], ◌∷◌, length, get_or, map, replicate, Option, Some, None, refl, sym, ap, ◌∙◌, subst, if◌then◌else◌, arith}
 use Rattle.std.specs.Prelude.{slice_get, slice_set, slice_index_or}
 use Rattle.std.specs.List.{Contains}
 use Rattle.std.proofs.lemmas.Int.{ints}
 use Rattle.std.proofs.lemmas.List.{length-replicate}
 use Rattle.std.proofs.Math.ListN.{length-set}
 use native.Mathlib.Decide.{dec_lt, ℕ_discrete}
-use Rattle.l2_runs.specs.Numbers.{at_number}
 use Rattle.l2_templates.specs.declared.form.Form.{Form}
 use Rattle.l2_templates.specs.declared.form.Row.{Row}
 use Rattle.l2_templates.specs.declared.point.LoopPoint.{LoopPoint}
@@ -14,7 +13,7 @@ use Rattle.l2_templates.specs.declared.point.LoopPoint.TheVariants.{Bottom, Rows
 use Rattle.l2_templates.specs.Domains.{Rises}
 use Rattle.l2_templates.specs.Rows.{row_of}
 use Rattle.l2_templates.specs.Forms.{no_form}
-use Rattle.l2_templates.specs.Points.{IsTighter, Tightens, BoundsAll, IsStrongerAt, IsStronger}
+use Rattle.l2_templates.specs.Points.{IsTighter, Tightens, IsStrongerAt, IsStronger}
 use Rattle.l2_cuts.specs.Points.{point_at}
 use Rattle.l2_cuts.specs.Strongest.{IsBoundOf, HaveBounds}
 use Rattle.l2_strategy.specs.Asking.{IsBounded, IsFailedAt, IsFailed}
@@ -104,7 +103,7 @@ module _ (bounds : List ℤ) (rises : Rises bounds) where
   starts_fit [] = λ i d lt. absurd (omega (arith, lt))
   starts_fit (forms ∷ all) = fit_more (at_bottom forms) (map at_bottom all) (length-replicate (length forms) 0) (starts_fit all)
 
-  start_forms : (all : List (List Form)) → forms_of (map at_bottom all) ≡ all
+  pub start_forms : (all : List (List Form)) → forms_of (map at_bottom all) ≡ all
   start_forms [] = refl
   start_forms (forms ∷ all) = ap (λ xs. forms ∷ xs) (start_forms all)
 
@@ -337,10 +336,11 @@ failed_at bounds spots d Exceeds q zero row e h = let c = h.some in absurd (omeg
 failed_at bounds spots d Exceeds q (suc i) row e h =
     let long : length q ≡ length spots = ap length e ∙ point_long bounds spots in
     let inside : i < length spots = omega (arith, long, h.within) in
-    let same : suc i - 1 ≡ i = omega arith in
-    (omega (arith, inside),
-    subst (λ j. IsFailedAt (Exceeds (suc i)) (spot_point bounds (slice_index_or spots j d)) row) (sym same)
-    (subst (λ x. IsFailedAt (Exceeds (suc i)) x row) (point_index bounds spots i d inside) (subst (λ x. IsFailedAt (Exceeds (suc i)) (point_at x (suc i)) row) e h.fails)))
+    let same : suc i - 1 ≡ i = omega arith in (
+      omega (arith, inside),
+      subst (λ j. IsFailedAt (Exceeds (suc i)) (spot_point bounds (slice_index_or spots j d)) row) (sym same)
+          (subst (λ x. IsFailedAt (Exceeds (suc i)) x row) (point_index bounds spots i d inside) (subst (λ x. IsFailedAt (Exceeds (suc i)) (point_at x (suc i)) row) e h.fails)),
+    )
 
 -- ---- steps
 

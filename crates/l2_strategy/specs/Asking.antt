@@ -1,5 +1,5 @@
 -- What a question for a row that some run fails answers.
-use Rattle.std.specs.Prelude.{◌≡◌, ⊤, ℕ, ℤ, ◌≤◌, List, length, Option, Some, None, ◌⊎◌}
+use Rattle.std.specs.Prelude.{◌≡◌, ⊤, ℕ, ℤ, ◌≤◌, List, length, Some}
 use Rattle.l2_runs.specs.Numbers.{at_number}
 use Rattle.l2_templates.specs.declared.form.Row.{Row}
 use Rattle.l2_templates.specs.declared.point.LoopPoint.{LoopPoint}

@@ -35,7 +35,13 @@ pub trait Asks {
             (λ b. IsFailed (exceeds (problem self.old) point.now) point.now b.at b.row)) };
 
     /// Whether some run exceeds this.
-    fn row(&mut self, alloc: Global, point: &Point, broken: BrokenRow, above: i128) -> Result<bool, AllocError>
+    fn row(
+        &mut self,
+        alloc: Global,
+        point: &Point,
+        broken: BrokenRow,
+        above: i128,
+    ) -> Result<bool, AllocError>
         ensures same { problem self.new ≡ problem self.old }
         ensures is { IfOk result (λ found. IsTrue found ↔ exceeds (problem self.old) point.now broken.at broken.row above) };
 

@@ -1,7 +1,7 @@
-use Rattle.std.proofs.Common.{◌≡◌, ◌<◌, ◌-◌, ℕ, ℤ, pos, Bool, true, false, length, sym, ap, ◌∙◌, subst, arith}
+use Rattle.std.proofs.Common.{◌<◌, ◌-◌, pos, true, length, sym, ap, ◌∙◌, subst, arith}
 use Rattle.std.specs.Prelude.{slice_index_or, slice_set}
 use Rattle.l2_strategy.specs.Places.{Spot}
-use Rattle.l2_strategy.proofs.Raising.{Stepped, Raisable, failed_at, reach_step, raisable, raise_step, spot_same, can}
+use Rattle.l2_strategy.proofs.Raising.{Stepped, failed_at, reach_step, raise_step, spot_same, can}
 use Rattle.l2_strategy.proofs.search.raise.Goals as goal
 use Rattle.l2_strategy.proofs.search.raise.Given as given
 
@@ -63,13 +63,13 @@ index-from-requires g c =
 pub least-requires-clause-inside : goal.least-requires-clause-inside
 least-requires-clause-inside g c =
     let k = can c.args.bounds.now (g.A.Asks.exceeds (g.A.Asks.problem c.args.engine.now) c.args.point.now) c.args.places.now.items c.args.point.now c.args.broken.at c.args.broken.row c.index.result.now c.index-2.result.now
-        c.requires.point c.requires.failed c.index.ensures c.index-2.ensures c.if-not-is_reached.ensures in
+    c.requires.point c.requires.failed c.index.ensures c.index-2.ensures c.if-not-is_reached.ensures in
     subst (λ j. j < length c.args.bounds.now) (sym c.index-from.ensures) k.bounded
 
 pub least-requires-clause-exceeded : goal.least-requires-clause-exceeded
 least-requires-clause-exceeded g c =
     let k = can c.args.bounds.now (g.A.Asks.exceeds (g.A.Asks.problem c.args.engine.now) c.args.point.now) c.args.places.now.items c.args.point.now c.args.broken.at c.args.broken.row c.index.result.now c.index-2.result.now
-        c.requires.point c.requires.failed c.index.ensures c.index-2.ensures c.if-not-is_reached.ensures in
+    c.requires.point c.requires.failed c.index.ensures c.index-2.ensures c.if-not-is_reached.ensures in
     subst (λ j. g.A.Asks.exceeds (g.A.Asks.problem c.args.engine.now) c.args.point.now c.args.broken.at c.args.broken.row (slice_index_or c.args.bounds.now j (pos 0))) (sym c.index-from.ensures) k.exceeded
 
 pub raise-requires : goal.raise-requires
