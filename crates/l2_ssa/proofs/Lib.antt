@@ -6,3 +6,4 @@ pub mod Reaches
 pub mod Frames
 pub mod Instructions
 pub mod Heads
+pub mod Turns
