@@ -88,3 +88,44 @@ module _ (m : Meaning) (s : Names) (g : Setting) (types : m.types ≡ g.types) w
         go false d false f next off =
             let r = off ((facts false d).1, h.1) in
             record { closed = (r.after, ((facts false d).0 ∙ ap (λ x. x && true) f, r.events)); entries = r.entries }
+
+  -- ---- ends of turns
+
+  app_nil : {A : Type 0} (xs : List A) → xs ++ [] ≡ xs
+  app_nil [] = refl
+  app_nil (x ∷ xs) = ap (λ ys. x ∷ ys) (app_nil xs)
+
+  -- where no rankings are asked for
+  rank_close : (rk : Bool) → rk ≡ false → (q c : Operand) (l : ℕ) (old : List Slot) (n : ℕ) (o : walks.Out) (p : Place) (e : Come (Unit {0})) → Closes o p e → Closes (joined walks.nothing o (end_rank g rk q c l old n o.after)) p e
+  rank_close true d q c l old n o p e h = cc
+  rank_close false d q c l old n o p (Goes u p') h = record { closed = (h.closed.0, h.closed.1, false_both m s g o.events [] h.closed.2 tt); entries = Rattle.l2_ssa.proofs.Shows.shut_both m s g o.entries [] h.entries tt }
+  rank_close false d q c l old n o p (Ends e p') h = record { closed = (h.closed.0, if_false m s g (is_shown g e) e o.events [] h.closed.1 tt); entries = Rattle.l2_ssa.proofs.Shows.shut_both m s g o.entries [] h.entries tt }
+
+  rank_off : (rk : Bool) → rk ≡ false → (q c : Operand) (l : ℕ) (old : List Slot) (n : ℕ) (o : walks.Out) → Stops m s g o → Stops m s g (joined walks.nothing o (end_rank g rk q c l old n o.after))
+  rank_off true d q c l old n o h = cc
+  rank_off false d q c l old n o h = record { after = h.after; entries = Rattle.l2_ssa.proofs.Shows.shut_both m s g o.entries [] h.entries tt; events = false_both m s g o.events [] h.events tt }
+
+  rank_tests : (rk : Bool) → rk ≡ false → (l k : ℕ) (ts : List Test) → ts ++ rank_test m.lower g rk l k ≡ ts
+  rank_tests true d l k ts = cc
+  rank_tests false d l k ts = app_nil ts
+
+  bottom_close : (b : Bool) (l : ℕ) (old : Store) (n : ℕ) (c : Operand) (w : Walk) (p : Place) → Rattle.l2_ssa.proofs.Shows.Sized m s g 1 g.objects w.slots → on s (Temp n) ≡ b
+      → Closes (record (walks.stepped (Rattle.l2_ssa.specs.Steps.Both w.path c ∷ []) (with_path w walks.F)) { events = walks.event (RowGoal l 0) (Temp n) }) p (come_of (events b l bottom old (at p [] 0)))
+  bottom_close true l old n c w p h e = record { closed = ((refl, h), inl (refl, e, tt)); entries = tt }
+  bottom_close false l old n c w p h e = record { closed = ((refl, h), (e, tt)); entries = tt }
+
+  module _ (plain : g.ranks ≡ false) where
+    pub turn_close : (kind : Kind) (c : Operand) (b : Bool) → on s c ≡ b → (l : ℕ) (slots : List Slot) (old : Store) (n : ℕ) (w : Walk) (p : Place) → Stand w.path w.slots (At p.store) → Solves m s n (end_turn g kind c l slots n w).steps
+        → Closes (end_turn g kind c l slots n w) p (come_of (events b l (tests_of m.row m.lower g kind l) old (at p [] 0)))
+    turn_close Bottom c b e l slots old n w p h ok = bottom_close b l old n c w p h.1 (on_both n w.path c ok.0 ∙ (λ i. h.0 i && e i))
+    turn_close Plain c b e l slots old n w p h ok = record { closed = (refl, h, tt); entries = tt }
+    turn_close (Rows r) c b e l slots old n w p h ok =
+        subst (λ ts. Closes (end_turn g (Rows r) c l slots n w) p (come_of (events b l ts old (at p [] 0)))) (sym (rank_tests g.ranks plain l (suc r) (row_tests m.row g l 1 r)))
+        (rank_close g.ranks plain w.path c l slots _ (end_rows g w.path c l 1 r n w) p _
+            (rows_close w.path c h.0 b e old l 1 r n w p h (solves_first m s g n (end_rows g w.path c l 1 r n w).steps _ ok)))
+
+    pub turn_off : (kind : Kind) (c : Operand) (l : ℕ) (slots : List Slot) (n : ℕ) (w : Walk) → Stand w.path w.slots Off → Solves m s n (end_turn g kind c l slots n w).steps → Stops m s g (end_turn g kind c l slots n w)
+    turn_off Bottom c l slots n w h ok = record { after = (refl, h.1); entries = tt; events = (on_both n w.path c ok.0 ∙ ap (λ x. x && on s c) h.0, tt) }
+    turn_off Plain c l slots n w h ok = record { after = h; entries = tt; events = tt }
+    turn_off (Rows r) c l slots n w h ok =
+        rank_off g.ranks plain w.path c l slots _ (end_rows g w.path c l 1 r n w) (rows_off w.path c l 1 r n w h (solves_first m s g n (end_rows g w.path c l 1 r n w).steps _ ok))
