@@ -7,3 +7,4 @@ pub mod Frames
 pub mod Instructions
 pub mod Heads
 pub mod Turns
+pub mod Copies
