@@ -166,3 +166,58 @@ module _ (m : Meaning) (s : Names) (g : Setting) (types : m.types ≡ g.types) (
     count_is : (last z : Bool) (p b c : Operand) (n : ℕ) → on s p ≡ true → z ≡ on s b → Solves m s n (count_steps last p b c) → on s (count_name last c n) ≡ counts last z (on s c)
     count_is true z p b c n guard e ok = refl
     count_is false z p b c n guard e ok = ap is_true (ok.0 guard) ∙ bit_on (on s c && not (on s b)) ∙ ap (λ x. on s c && not x) (sym e)
+
+    unstuck : (d : Bool) (old : Store) (lv : Bool) (next : Supplied (Unit {0} × ℕ)) (v : Supply) (e : Come Way) → NotStuck (whole d old lv next v e) → NotStuck e
+    unstuck d old lv next v (Goes w p) h = tt
+    unstuck d old lv next v (Ends e p) h = h
+
+    -- ---- all copies
+
+    module _ (b c : Operand) where
+      copies_stop : (k n : ℕ) (w : Walk) → Stand w.path w.slots Off → Solves m s n (walk_copies g body l (g.kind l) b c temps k n w).steps → Stop (walk_copies g body l (g.kind l) b c temps k n w)
+      copies_stop zero n w h ok = record { after = (refl, h.1); entries = tt; events = tt }
+      copies_stop (suc k) n w h ok =
+          let x = count_steps (is_last k) w.path b c in
+          let d = count_name (is_last k) c n in
+          let o = body (copy_frame (is_last k) b) d (past n x) (record w { temps = temps }) in
+          let n1 = past (past n x) o.steps in
+          let et = end_turn g (g.kind l) d l w.slots n1 o.after in
+          let rest = walk_copies g body l (g.kind l) b c temps k (past n1 et.steps) et.after in
+          let ok1 = solves_second m s g n x _ ok in
+          let ok2 = solves_second m s g (past n x) o.steps _ ok1 in
+          let so = body_stops (copy_frame (is_last k) b) d (past n x) (record w { temps = temps }) h (solves_first m s g (past n x) o.steps _ ok1) in
+          let se = turn_off m s g types plain (g.kind l) d l w.slots n1 o.after so.after (solves_first m s g n1 et.steps _ ok2) in
+          behind_stops (w.path ∷ []) x (joined (pair o.given rest.given) o (joined nothing et rest))
+          (joined_stops m s g (pair o.given rest.given) o (joined nothing et rest) so (joined_stops m s g nothing et rest se (copies_stop k (past n1 et.steps) et.after se.after (solves_second m s g n1 et.steps _ ok2))))
+
+      module _ (z : Bool) (back : z ≡ on s b) where
+        pub copies_show : (k n : ℕ) (w : Walk) (p : Place) (u : Supply) → Stand w.path w.slots (At p.store) → Inv p.store → Solves m s n (walk_copies g body l (g.kind l) b c temps k n w).steps
+            → Matches s (walk_copies g body l (g.kind l) b c temps k n w).given u → NotStuck (turns tested z (on s c) k u p)
+            → Show (walk_copies g body l (g.kind l) b c temps k n w) (allow (outs_of s fs) (way_of (turns tested z (on s c) k u p)))
+        copies_show zero n w p u h inv ok mt ns = record { after = record { stands = (refl, h.1); temps = tt }; entries = tt; events = tt }
+        copies_show (suc k) n w p u h inv ok mt ns =
+            let x = count_steps (is_last k) w.path b c in
+            let d = count_name (is_last k) c n in
+            let o = body (copy_frame (is_last k) b) d (past n x) (record w { temps = temps }) in
+            let n1 = past (past n x) o.steps in
+            let et = end_turn g (g.kind l) d l w.slots n1 o.after in
+            let rest = walk_copies g body l (g.kind l) b c temps k (past n1 et.steps) et.after in
+            let ok1 = solves_second m s g n x _ ok in
+            let ok2 = solves_second m s g (past n x) o.steps _ ok1 in
+            let oke = solves_first m s g n1 et.steps _ ok2 in
+            let okq = solves_second m s g n1 et.steps _ ok2 in
+            let dc = count_is (is_last k) z w.path b c n h.0 back (solves_first m s g n x _ ok) in
+            let next = turns tested z (on s c) k in
+            let ns' = subst (λ y. NotStuck (whole y p.store (leaves (is_last k) z) next (right u) (turn y (left u) p))) (sym dc) ns in
+            behind_shows (w.path ∷ []) x (joined (pair o.given rest.given) o (joined nothing et rest)) _
+            (subst (λ y. Show (joined (pair o.given rest.given) o (joined nothing et rest)) (allow (outs_of s fs) (way_of (whole y p.store (leaves (is_last k) z) next (right u) (turn y (left u) p))))) dc
+                (copy_shows (is_last k) z b back (on s d) p.store next (right u) (pair o.given rest.given) o (joined nothing et rest) (turn (on s d) (left u) p)
+                    (body_shows (copy_frame (is_last k) b) d (past n x) (record w { temps = temps }) p (left u) (record { stands = h; temps = same }) inv (solves_first m s g (past n x) o.steps _ ok1) mt.0
+                        (unstuck (on s d) p.store (leaves (is_last k) z) next (right u) (turn (on s d) (left u) p) ns'))
+                    ns' (body_holds (on s d) (left u) p inv)
+                    (λ p' inv' st nst. end_shows et rest p' (events (on s d) l (tests_of m.row m.lower g (g.kind l) l) p.store (at p' [] 0)) (leaves (is_last k) z) next (right u) (outs_of s fs)
+                        (turn_close m s g types plain (g.kind l) d (on s d) refl l w.slots p.store n1 o.after p' st oke) nst
+                        (λ nsn stn. copies_show k (past n1 et.steps) et.after p' (right u) stn inv' okq mt.1 nsn)
+                        (λ off. copies_stop k (past n1 et.steps) et.after off okq))
+                    (λ off. let se = turn_off m s g types plain (g.kind l) d l w.slots n1 o.after off oke in
+                        joined_stops m s g nothing et rest se (copies_stop k (past n1 et.steps) et.after se.after okq))))
