@@ -174,7 +174,7 @@ module _ (m : Meaning) (s : Names) (g : Setting) (types : m.types ≡ g.types) (
     -- ---- all copies
 
     module _ (b c : Operand) where
-      copies_stop : (k n : ℕ) (w : Walk) → Stand w.path w.slots Off → Solves m s n (walk_copies g body l (g.kind l) b c temps k n w).steps → Stop (walk_copies g body l (g.kind l) b c temps k n w)
+      pub copies_stop : (k n : ℕ) (w : Walk) → Stand w.path w.slots Off → Solves m s n (walk_copies g body l (g.kind l) b c temps k n w).steps → Stop (walk_copies g body l (g.kind l) b c temps k n w)
       copies_stop zero n w h ok = record { after = (refl, h.1); entries = tt; events = tt }
       copies_stop (suc k) n w h ok =
           let x = count_steps (is_last k) w.path b c in

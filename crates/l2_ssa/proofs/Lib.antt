@@ -8,3 +8,4 @@ pub mod Instructions
 pub mod Heads
 pub mod Turns
 pub mod Copies
+pub mod Whole
