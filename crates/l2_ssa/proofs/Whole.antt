@@ -195,3 +195,85 @@ module _ (row : RowsOf) (lower : RanksOf) (s : Names) (g : Setting) (checks loop
           ap (λ x. Rattle.l2_supply.specs.Going.on_bool x (then_with (Rattle.l2_supply.specs.Going.goes (tt {0})) (λ v. rounds_with (suc k0) (q b)))
               (then_with back_run (λ v. later_with k0 q b)) (right u) p) e
           ∙ ap (λ (f : Supplied (Unit {0} × ℕ)). on_goes (back_run (left (right u)) p) (λ v. f (right (right u)))) (back_turns q b k0)
+
+      module _ (r : ℕ) (e : g.kind l ≡ Rows r) (c : Operand) (n : ℕ) (w : Walk) where
+        abbrev sc : walks.Out
+        sc = scatter g w.path (Temp n) (g.mods l) (suc n) w
+
+        abbrev n1 : ℕ
+        n1 = past (suc n) sc.steps
+
+        abbrev hd : walks.Written
+        hd = head_rows g w.path (Temp n) l 1 r n1 sc.after
+
+        abbrev cp : walks.Out
+        cp = walk_copies g body l (Rows r) (Temp n) c temps g.copies (past n1 hd.steps) hd.walk
+
+        abbrev rows_out : walks.Out
+        rows_out = record cp { steps = Rattle.l2_ssa.specs.Steps.Choose w.path ∷ (sc.steps ++ (hd.steps ++ cp.steps)); given = pair (walks.chosen n) (pair (pair sc.given walks.nothing) cp.given) }
+
+        wrap_show : (x : Come Way) → Show cp x → Show rows_out x
+        wrap_show x h = record { after = h.after; entries = h.entries; events = h.events }
+
+        wrap_stop : Stop cp → Stop rows_out
+        wrap_stop h = record { after = h.after; entries = h.entries; events = h.events }
+
+        module _ (ok : Solves m s n rows_out.steps) where
+          ok_s : Solves m s (suc n) sc.steps
+          ok_s = solves_first m s g (suc n) sc.steps _ ok.1
+
+          ok_h : Solves m s n1 hd.steps
+          ok_h = solves_first m s g n1 hd.steps _ (solves_second m s g (suc n) sc.steps _ ok.1)
+
+          ok_c : Solves m s (past n1 hd.steps) cp.steps
+          ok_c = solves_second m s g n1 hd.steps _ (solves_second m s g (suc n) sc.steps _ ok.1)
+
+          off_from : Stand sc.after.path sc.after.slots Off → Stop rows_out
+          off_from h = wrap_stop (stops_at (Rows r) e (Temp n) c g.copies (past n1 hd.steps) hd.walk (rows_off m s g refl w.path (Temp n) l 1 r n1 sc.after h ok_h) ok_c)
+
+          pub rows_stop : Stand w.path w.slots Off → Stop rows_out
+          rows_stop h = off_from (off_all m s g refl w.path (Temp n) (g.mods l) (suc n) w h ok_s)
+
+          module _ (p : Place) (u : Supply) (h : Stand w.path w.slots (At p.store)) (inv : Inv p.store) (mt : Matches s rows_out.given u) where
+            rows_entered : on s (Temp n) ≡ false → NotStuck (turns q false (on s c) (suc k0) (right (right u)) p) → Show rows_out (allow (outs_of s fs) (way_of (turns q false (on s c) (suc k0) (right (right u)) p)))
+            rows_entered b ns =
+                wrap_show _ (copies_all (Rows r) e (Temp n) c false (sym b) (past n1 hd.steps) hd.walk p (right (right u))
+                    (rows_entry m s g refl w.path (Temp n) h.0 b l 1 r n1 sc.after p.store (entry_all m s g refl w.path (Temp n) h.0 b (g.mods l) (suc n) w p.store h ok_s) ok_h) inv ok_c mt.1.1 ns)
+
+            abbrev after_scatter : Come (Unit {0}) → Come (Unit {0})
+            after_scatter x = on_goes x (λ v z. come_of (passing (starts row g l) (at z [] 0)))
+
+            starts_is : (st : Store) → starts row g l st ≡ rows_hold row g l 1 r st
+            starts_is st = ap (λ kd. starts_of row g kd l st) e
+
+            passed : on s (Temp n) ≡ true → (z : Place) → Stand sc.after.path sc.after.slots (At z.store) → (x : Bool) → starts row g l z.store ≡ x
+                → ComeHolds Inv (come_of (either x (done (tt {0})) stop (at z [] 0))) → NotStuck (on_goes (come_of (either x (done (tt {0})) stop (at z [] 0))) (λ v. turns q true (on s c) (suc k0) (right (right u))))
+                → Show rows_out (allow (outs_of s fs) (way_of (on_goes (come_of (either x (done (tt {0})) stop (at z [] 0))) (λ v. turns q true (on s c) (suc k0) (right (right u))))))
+            passed b z st true i iz ns =
+                wrap_show _ (copies_all (Rows r) e (Temp n) c true (sym b) (past n1 hd.steps) hd.walk z (right (right u))
+                    (rows_back m s g refl w.path (Temp n) h.0 b l 1 r n1 sc.after z.store st ok_h true (sym (starts_is z.store) ∙ i)) iz ok_c mt.1.1 ns)
+            passed b z st false i iz ns =
+                stop_show rows_out z (wrap_stop (stops_at (Rows r) e (Temp n) c g.copies (past n1 hd.steps) hd.walk
+                    (rows_back m s g refl w.path (Temp n) h.0 b l 1 r n1 sc.after z.store st ok_h false (sym (starts_is z.store) ∙ i)) ok_c))
+
+            back_case : on s (Temp n) ≡ true → (x : Come (Unit {0})) → Lands m s g refl sc.after.path sc.after.slots x → ComeHolds Inv (after_scatter x) → NotStuck (on_goes (after_scatter x) (λ v. turns q true (on s c) (suc k0) (right (right u))))
+                → Show rows_out (allow (outs_of s fs) (way_of (on_goes (after_scatter x) (λ v. turns q true (on s c) (suc k0) (right (right u))))))
+            back_case b (Goes v z) d iz ns = passed b z d (starts row g l z.store) refl iz ns
+            back_case b (Ends (Over Stopped) z) d iz ns = stop_show rows_out z (off_from d)
+            back_case b (Ends (Over Ended) z) d iz ns = absurd d
+            back_case b (Ends (Over (Broken k)) z) d iz ns = absurd d
+            back_case b (Ends (Over OutOfChoices) z) d iz ns = absurd d
+            back_case b (Ends (Over OutOfTurns) z) d iz ns = absurd d
+            back_case b (Ends (Fallen k row') z) d iz ns = absurd d
+
+            pub rows_shows : NotStuck (loop_run (on s c) u p) → Show rows_out (allow (outs_of s fs) (way_of (loop_run (on s c) u p)))
+            rows_shows ns = go (int_eq (number_of (left u)) (pos 0)) refl
+              where
+                bit_is : (x : Bool) → int_eq (number_of (left u)) (pos 0) ≡ x → on s (Temp n) ≡ not x
+                bit_is x i = ap is_true mt.0 ∙ bit_on (not (int_eq (number_of (left u)) (pos 0))) ∙ ap not i
+                go : (x : Bool) → int_eq (number_of (left u)) (pos 0) ≡ x → Show rows_out (allow (outs_of s fs) (way_of (loop_run (on s c) u p)))
+                go true i = subst (λ y. Show rows_out (allow (outs_of s fs) (way_of y))) (sym (entry_run (on s c) u p i)) (rows_entered (bit_is true i) (subst (λ y. NotStuck y) (entry_run (on s c) u p i) ns))
+                go false i = subst (λ y. Show rows_out (allow (outs_of s fs) (way_of y))) (sym (back_go (on s c) u p i))
+                    (back_case (bit_is false i) (scatter_with g.types.objects g.family.object (g.mods l) (left (left (right u))) p)
+                        (back_all m s g refl w.path (Temp n) h.0 (bit_is false i) (g.mods l) (suc n) w p (left (left (right u))) h ok_s mt.1.0.0)
+                        (back_holds (left (right u)) p inv) (subst (λ y. NotStuck y) (back_go (on s c) u p i) ns))
