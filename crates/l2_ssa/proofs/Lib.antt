@@ -6,3 +6,6 @@ pub mod Reaches
 pub mod Frames
 pub mod Instructions
 pub mod Heads
+pub mod Turns
+pub mod Copies
+pub mod Whole

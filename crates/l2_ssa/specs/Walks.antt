@@ -79,7 +79,8 @@ pub record Event : Type 0 where
 -- the names that choices give, in the shape of a supply
 pub data Given : Type 0 where
   nothing : Given
-  -- whether a loop starts back; a number of a type; a selector or an offset
+  -- a loop is entered; whether a loop starts back; a number of a type; a selector or an offset
+  entering : Given
   chosen : ℕ → Given
   taken : ℕ → Ty → Given
   half : ℕ → Given
@@ -480,10 +481,14 @@ walk_copies g body l kind b c temps (suc k) n w =
     let q = walk_copies g body l kind b c temps k (past n1 p.steps) p.after in
     behind (w.path ∷ []) x (joined (pair o.given q.given) o (joined nothing p q))
 
+-- a loop that is entered
+abbrev pub entered : Out → Out
+entered o = record o { given = pair entering (pair nothing o.given) }
+
 -- a loop without back starts, or one whose name n says whether it starts back
 abbrev pub walk_loop : Setting → Kind → (Frame → Operand → ℕ → Walk → Out) → ℕ → Operand → ℕ → Walk → Out
-walk_loop g Bottom body l c n w = walk_copies g body l Bottom F c w.temps g.copies n w
-walk_loop g Plain body l c n w = walk_copies g body l Plain F c w.temps g.copies n w
+walk_loop g Bottom body l c n w = entered (walk_copies g body l Bottom F c w.temps g.copies n w)
+walk_loop g Plain body l c n w = entered (walk_copies g body l Plain F c w.temps g.copies n w)
 walk_loop g (Rows rows) body l c n w =
     let s = scatter g w.path (Temp n) (g.mods l) (suc n) w in
     let n1 = past (suc n) s.steps in
