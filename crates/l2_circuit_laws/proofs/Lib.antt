@@ -1,3 +1,5 @@
 pub mod Columns
 pub mod Made
 pub mod Numbers
+pub mod Products
+pub mod Quotients

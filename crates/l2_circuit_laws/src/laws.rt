@@ -1,5 +1,5 @@
 //! The laws.
-ghost use Rattle.l2_circuit_laws.specs.Law.{ColumnsHaveValues, ColumnsAreMade, SumsAre, DifferencesAre, LessIs, EqualIs};
+ghost use Rattle.l2_circuit_laws.specs.Law.{ColumnsHaveValues, ColumnsAreMade, SumsAre, DifferencesAre, LessIs, EqualIs, ChoicesAre, ProductsAre, QuotientsAre};
 
 /// In each model of the clauses in which variable 1 is true, a circuit that goes bit by bit computes what its columns do.
 pub fn columns_have_values()
@@ -29,4 +29,19 @@ pub fn less_is()
 /// Whether two words are equal.
 pub fn equal_is()
     ensures { EqualIs }
+{}
+
+/// One of two words.
+pub fn choices_are()
+    ensures { ChoicesAre }
+{}
+
+/// A product, but for multiples of 2 to the power of the width.
+pub fn products_are()
+    ensures { ProductsAre }
+{}
+
+/// A quotient without signs, and what is left.
+pub fn quotients_are()
+    ensures { QuotientsAre }
 {}
