@@ -3,3 +3,4 @@ pub mod Made
 pub mod Numbers
 pub mod Products
 pub mod Quotients
+pub mod Shown
