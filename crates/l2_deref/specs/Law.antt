@@ -1,5 +1,5 @@
 -- What a code with its sets is, and that its reads and writes act at candidates alone.
-use Rattle.std.specs.Prelude.{◌≡◌, ℕ, true, List, Some}
+use Rattle.std.specs.Prelude.{◌≡◌, true, Some}
 use Rattle.l2_runs.specs.declared.cells.CellType.{CellType}
 use Rattle.l2_runs.specs.Members.{targets, Within}
 use Rattle.l2_runs.specs.Store.{Address}
