@@ -12,3 +12,4 @@ pub mod Weights
 pub mod OperandTypes
 pub mod Lists
 pub mod MainCode
+pub mod Typing
