@@ -13,3 +13,4 @@ pub mod OperandTypes
 pub mod Lists
 pub mod MainCode
 pub mod Typing
+pub mod ExpressionTypes

@@ -68,10 +68,6 @@ module _ (names : Names) where
   join_jumps k none ys h l = l
   join_jumps k (more x xs) ys (p, q) l = (p, join_jumps k xs ys q l)
 
-  more_from : (n m k : ℕ) (xs ys zs : List ℕ) → IsFrom n (xs ++ ys) m → IsFrom m zs k → IsFrom n (xs ++ ys ++ zs) k
-  more_from n m k [] ys zs h l = from_join n m k ys zs h l
-  more_from n m k (x ∷ xs) ys zs (p, q) l = (p, more_from (suc n) m k xs ys zs q l)
-
   join_numbers : (n m k : ℕ) (xs ys : Nodes) → IsFrom n (results xs) m → IsFrom m (results ys) k → IsFrom n (results (join xs ys)) k
   join_numbers n m k none ys e h = subst (λ x. IsFrom x (results ys) k) (sym e) h
   join_numbers n m k (more x xs) ys h l = skip n (node_results x) h (λ j q. join_numbers j m k xs ys q l) where
@@ -137,6 +133,7 @@ module _ (names : Names) where
   pub record Tests (x : Emitted) (n : ℕ) (scope : Scope) : Type 0 where
     pub sound : Sound n scope x.nodes x.next
     pub truth : IsTruth (all_behind scope x.nodes) x.operand
+    pub below : IsBelow x.next x.operand
 
   abbrev pub ConstantIs : CellType → Operand → Type 0
   ConstantIs ty (Constant v) = IsConstant names.objects ty v
@@ -159,10 +156,11 @@ module _ (names : Names) where
   pub computed_tests : (n : ℕ) (scope : Scope) (c : Computation) → IsTypedComputation names scope c → ConstantIsBit (computed n c).operand → (computation_gives c).is_truth ≡ true → Tests (computed n c) n scope
   computed_tests n scope c h fits gives = go (are_constant (operands_of c)) fits where
     go : (x : Bool) → ConstantIsBit (if x then nothing n (Constant (or_zero (compute no_types [] no_temps c))) else result n (Compute n c)).operand → Tests (if x then nothing n (Constant (or_zero (compute no_types [] no_temps c))) else result n (Compute n c)) n scope
-    go true f = record { sound = none_sound n scope; truth = f }
+    go true f = record { sound = none_sound n scope; truth = f; below = tt }
     go false f = record {
       sound = result_sound n scope (Compute n c) (computation_gives c) refl refl h (λ j. tt);
       truth = subst (λ o. IsKnownTruth o) (sym (result_known n scope (Compute n c) (computation_gives c) refl)) gives;
+      below = omega arith;
     }
 
   pub nothing_given : (n : ℕ) (scope : Scope) (ty : CellType) (a : Operand) → IsOperand names.objects scope ty a → IsBelow n a → Given (ty ∷ []) (nothing n a) n scope
