@@ -1,5 +1,5 @@
 -- The code of typed expressions is typed.
-use Rattle.std.proofs.Common.{◌≡◌, ℕ, zero, suc, ◌+◌, ◌<◌, ◌≤◌, ℤ, pos, neg_ℤ, ◌≤ℤ◌, ◌^◌, ◌-◌, Bool, true, false, not, List, [], ◌∷◌, ◌++◌, length, Option, Some, None, refl, sym, ap, subst, ◌∙◌, arith, ◌⊎◌, inl, inr}
+use Rattle.std.proofs.Common.{◌≡◌, ℕ, zero, suc, ◌+◌, ◌<◌, ◌≤◌, ℤ, pos, negsuc, neg_ℤ, ◌≤ℤ◌, ◌^◌, ◌-◌, Bool, true, false, not, List, [], ◌∷◌, ◌++◌, length, Option, Some, None, refl, sym, ap, subst, ◌∙◌, arith, ◌⊎◌, inl, inr}
 use Rattle.std.specs.Prelude.{◌&&◌, if◌then◌else◌, slice_get}
 use Rattle.std.proofs.lemmas.Int.{ints}
 use Rattle.std.specs.Ordering.{int_eq}
@@ -174,7 +174,7 @@ module _ (cells : Layout) (pointed : ℕ → List CellType) (g : Listing) (loops
       let check = overflow_check n c arithmetic.Sub ty zero_number a in
       let s = overflow_sound n scope c arithmetic.Sub ty zero_number a refl (zero_operand scope ty) h l in
       after_given (Integer ty ∷ []) check (λ m. computed m (Compute_Numbers operator.Sub ty zero_number a)) n scope s
-      (numbers_given check.next (all_behind scope check.nodes) operator.Sub ty ty zero_number a refl (zero_operand _ ty) (operand_later names n scope (all_behind scope check.nodes) (Integer ty) a p s.stay h) (unary_of n Negate ty c a (of_operand scope ty a h)) refl)
+      (numbers_given check.next (all_behind scope check.nodes) operator.Sub ty ty zero_number a refl (zero_operand (all_behind scope check.nodes) ty) (operand_later names n scope (all_behind scope check.nodes) (Integer ty) a p s.stay h) (unary_of n Negate ty c a (of_operand scope ty a h)) refl)
   unary_given n scope Not ty c a h p l = numbers_given n scope operator.Eq ty int_type a zero_number refl h (zero_operand scope ty) (unary_of n Not ty c a (of_operand scope ty a h)) refl
 
   arithmetic_given : (n : ℕ) (scope : Scope) (op : Op) (o : Operator) (ty : Ty) (c : ℕ) (a b : Operand) → code.is_left_shift op ≡ false → code.is_shift o ≡ false → (code.computation_gives (Compute_Numbers o ty a b)).type ≡ Integer ty →

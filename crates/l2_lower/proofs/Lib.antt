@@ -14,3 +14,4 @@ pub mod Lists
 pub mod MainCode
 pub mod Typing
 pub mod ExpressionTypes
+pub mod StatementTypes
