@@ -56,7 +56,7 @@ module _ (names : Names) where
   pub grows : (n m : ℕ) (scope : Scope) (xs : Nodes) → Sound n scope xs m → n ≤ m
   grows n m scope xs h = from_grows n m (results xs) h.numbers
 
-  join_typed : (scope : Scope) (xs ys : Nodes) → AreTyped names scope xs → AreTyped names (all_behind scope xs) ys → AreTyped names scope (join xs ys)
+  pub join_typed : (scope : Scope) (xs ys : Nodes) → AreTyped names scope xs → AreTyped names (all_behind scope xs) ys → AreTyped names scope (join xs ys)
   join_typed scope none ys h k = k
   join_typed scope (more x xs) ys (p, q) k = (p, join_typed (behind_node scope x) xs ys q k)
 
@@ -64,11 +64,11 @@ module _ (names : Names) where
   join_behind scope none ys = refl
   join_behind scope (more x xs) ys = join_behind (behind_node scope x) xs ys
 
-  join_jumps : (k : ℕ) (xs ys : Nodes) → HaveJumps k xs → HaveJumps k ys → HaveJumps k (join xs ys)
+  pub join_jumps : (k : ℕ) (xs ys : Nodes) → HaveJumps k xs → HaveJumps k ys → HaveJumps k (join xs ys)
   join_jumps k none ys h l = l
   join_jumps k (more x xs) ys (p, q) l = (p, join_jumps k xs ys q l)
 
-  join_numbers : (n m k : ℕ) (xs ys : Nodes) → IsFrom n (results xs) m → IsFrom m (results ys) k → IsFrom n (results (join xs ys)) k
+  pub join_numbers : (n m k : ℕ) (xs ys : Nodes) → IsFrom n (results xs) m → IsFrom m (results ys) k → IsFrom n (results (join xs ys)) k
   join_numbers n m k none ys e h = subst (λ x. IsFrom x (results ys) k) (sym e) h
   join_numbers n m k (more x xs) ys h l = skip n (node_results x) h (λ j q. join_numbers j m k xs ys q l) where
     skip : (n : ℕ) (zs : List ℕ) → IsFrom n (zs ++ results xs) m → ((j : ℕ) → IsFrom j (results xs) m → IsFrom j (results (join xs ys)) k) → IsFrom n (zs ++ results (join xs ys)) k
