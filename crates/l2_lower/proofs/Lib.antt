@@ -15,3 +15,4 @@ pub mod MainCode
 pub mod Typing
 pub mod ExpressionTypes
 pub mod StatementTypes
+pub mod NeverStuck
