@@ -16,3 +16,4 @@ pub mod Typing
 pub mod ExpressionTypes
 pub mod StatementTypes
 pub mod NeverStuck
+pub mod WellFormedCode

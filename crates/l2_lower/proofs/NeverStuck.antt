@@ -1,6 +1,6 @@
 -- The code of a lawful program is never stuck.
 use Rattle.std.proofs.Common.{◌≡◌, ℕ, zero, suc, ◌+◌, ◌<◌, ◌≤◌, ℤ, pos, negsuc, Bool, true, false, List, [], ◌∷◌, length, Option, Some, None, refl, sym, ap, subst, ◌∙◌, arith, ◌⊎◌, inl, inr}
-use Rattle.std.specs.Prelude.{nat_le, IfSome, if◌then◌else◌}
+use Rattle.std.specs.Prelude.{nat_le, ◌==◌, IfSome, if◌then◌else◌}
 use Rattle.std.specs.Ordering.{int_eq}
 use Rattle.std.proofs.lemmas.Bool.Decides.{nat_tests}
 use Rattle.l2_bits.specs.Values.{wrap}
@@ -33,7 +33,7 @@ use Rattle.l2_code.specs.declared.code.CodeObject.{CodeObject}
 use Rattle.l2_code.specs.Values.{Types}
 use Rattle.l2_code.specs.Sets.{Family, HasCell, IsResolved}
 use Rattle.l2_code.specs.Modes.{object_cells, types_of, mods_of, start, Mode, Real, Short, Cut, limit_of, run_code}
-use Rattle.l2_code.specs.WellFormed.{IsStuck, IsNeverStuck}
+use Rattle.l2_code.specs.WellFormed.{IsStuck, All as AllOf}
 use Rattle.l2_lower.specs.Code.{code}
 use Rattle.l2_lower.proofs.Matches.{AnyTwo, Matches, then_matches, weaker_matches, done_matches, over_matches, either_matches, choose_matches, write_matches}
 use Rattle.l2_lower.proofs.MatchLoops.{AreFine, StartsAlike}
@@ -108,7 +108,80 @@ module _ (cells : Layout) (f : Family) (over : (n o : ℕ) → f.object n (membe
   scatter_self [] = self_done tt tt
   scatter_self (n ∷ ns) = self_then (cells_self n 0 (cells n) refl) (λ u p. scatter_self ns)
 
+  passes_self : (t : Bool) → Self (λ u. Unit {0}) (either {A = Unit {0}} t (done tt) stop)
+  passes_self t = either_matches cells IsUnstuck t (self_done tt tt) (over_matches cells IsUnstuck (Over Stopped) tt)
+
   pub back_starts : (mods : ℕ → List ℕ) (test : ℕ → Store → Bool) (l : ℕ) → Matches cells IsUnstuck AnyTwo (back cells f.object mods test l) (back cells f.object mods test l)
-  back_starts mods test l = weaker_matches cells IsUnstuck (self_then {Q = λ u. Unit {0}} (scatter_self (mods l)) (λ u p. record { by = λ s k. go (test l s.store) s k })) (λ a b p. tt) where
-    go : (t : Bool) (s : State) → StoreFits cells s.store → _
-    go = ?
+  back_starts mods test l = weaker_matches cells IsUnstuck (self_then {Q = λ u. Unit {0}} (scatter_self (mods l)) (λ u p. record { by = λ s k. (passes_self (test l s.store)).by s k })) (λ a b p. tt)
+
+-- ---- numbers
+
+-- what holds of each number from n on holds of those that pass a test
+pub numbers_all : {A : Type 0} (P : ℕ → Type 0) (f : A → Bool) (n : ℕ) (xs : List A) → ((i : ℕ) → i < length xs → P (n + i)) → AllOf P (numbers_where f n xs)
+numbers_all P f n [] h = tt
+numbers_all P f n (x ∷ xs) h = go (f x) where
+  first : P n
+  first = subst P (omega arith) (h 0 (omega arith))
+
+  rest : AllOf P (numbers_where f (suc n) xs)
+  rest = numbers_all P f (suc n) xs (λ i l. let e : n + (i + 1) ≡ suc n + i = omega arith in subst P e (h (i + 1) (omega arith)))
+
+  go : (b : Bool) → AllOf P (if b then n ∷ numbers_where f (suc n) xs else numbers_where f (suc n) xs)
+  go true = (first, rest)
+  go false = rest
+
+pub all_in : (P : ℕ → Type 0) (xs : List ℕ) (l : ℕ) → AllOf P xs → IsIn l xs → P l
+all_in P [] l h k = absurd k
+all_in P (x ∷ xs) l (p, q) (inl e) = subst P (sym e) p
+all_in P (x ∷ xs) l (p, q) (inr k) = all_in P xs l q k
+
+-- ---- lawful programs
+
+cells_there : (o : Option CodeObject) → HasCell o → 0 < length (object_cells o)
+cells_there None h = absurd h
+cells_there (Some o) h = h
+
+unstuck : (layout : Layout) (x : Result (Unit {0})) → EndsFine layout IsUnstuck x → ¬ IsStuck x
+unstuck layout (Go u s) h k = h
+unstuck layout (Halt (Over o) s) h k = k
+unstuck layout (Halt (Fallen zero row) s) h k = h
+unstuck layout (Halt (Fallen (suc l) row) s) h k = k
+
+module _ (p : ProgramTree) (lawful : IsLawful p) (f : Family) (resolved : IsResolved (code p) f) where
+  over : (n o : ℕ) → f.object n (member.Object o) ≡ true → 0 < length (cells_of p o)
+  over n o e = subst (λ (t : Types). 0 < length (t.objects o)) (program_types p) (cells_there (at_number (code p).objects o) (resolved.over.objects n o e))
+
+  -- the limit, where the types of the objects are these
+  abbrev limit_over : Types → Mode → Limit
+  limit_over t Real = loops.Real
+  limit_over t (Short k) = loops.Short k
+  limit_over t (Cut k test) = loops.Cut k (back t.objects f.object (mods_of (code p)) test)
+
+  starts_over : (mode : Mode) → StartsAlike (cells_of p) IsUnstuck (limit_over (record { objects = cells_of p; pointed = (types_of (code p)).pointed }) mode)
+  starts_over Real = tt
+  starts_over (Short k) = tt
+  starts_over (Cut k test) = back_starts (cells_of p) f over (mods_of (code p)) test
+
+  limit_is : (mode : Mode) → limit_of (code p) f mode ≡ limit_over (types_of (code p)) mode
+  limit_is Real = refl
+  limit_is (Short k) = refl
+  limit_is (Cut k test) = refl
+
+  limit_starts : (mode : Mode) → StartsAlike (cells_of p) IsUnstuck (limit_of (code p) f mode)
+  limit_starts mode = subst (λ limit. StartsAlike (cells_of p) IsUnstuck limit) (sym (limit_is mode)) (subst (λ (t : Types). StartsAlike (cells_of p) IsUnstuck (limit_over t mode)) (sym (program_types p)) (starts_over mode))
+
+  loops_fine : (l : ℕ) → IsIn l (loops_in lawful.main_function.body) → AreFine (cells_of p) IsUnstuck l
+  loops_fine l h =
+      let main = lawful.functions lawful.main lawful.main_function lawful.has_main in
+      fine l (all_in (λ n. 1 ≤ n) (loops_in lawful.main_function.body) l (subst (λ ls. AllOf (λ n. 1 ≤ n) ls) main.loops (numbers_all (λ n. 1 ≤ n) (λ (l : LoopInfo). l.function == lawful.main) 1 p.loops (λ i q. omega arith))) h) where
+    fine : (l : ℕ) → 1 ≤ l → AreFine (cells_of p) IsUnstuck l
+    fine zero q = absurd (omega arith)
+    fine (suc l) q = record { over = λ o. tt; fallen = λ row. tt }
+
+  start_fits : (choices : List ℤ) (turns : ℕ) → StoreFits (cells_of p) (start (code p) choices turns).store
+  start_fits choices turns = subst (λ store. StoreFits (cells_of p) store) (sym (start_same p)) (starts.first_fits p lawful)
+
+  pub never_stuck : (mode : Mode) (tests : Tests) (choices : List ℤ) (turns : ℕ) → ¬ IsStuck (run_code (code p) (limit_of (code p) f mode) tests (start (code p) choices turns))
+  never_stuck mode tests choices turns =
+      unstuck (cells_of p) (run_code (code p) (limit_of (code p) f mode) tests (start (code p) choices turns))
+      (run_agrees IsUnstuck (λ o. tt) p lawful (limit_of (code p) f mode) tests (limit_starts mode) loops_fine (start (code p) choices turns) (start_fits choices turns)).1
