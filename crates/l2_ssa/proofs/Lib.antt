@@ -10,3 +10,4 @@ pub mod Turns
 pub mod Copies
 pub mod Whole
 pub mod Givens
+pub mod Solutions

@@ -347,7 +347,7 @@ module _ (row : RowsOf) (lower : RanksOf) (s : Names) (g : Setting) (checks loop
           (λ d b q iv. way_known (behind_nodes scope all) (nodes_with run d all t b q) (nodes_known d all scope t b q k.1 z hold iv))
           p u h.stands inv (g.kind l) refl ok mt (first_unstuck _ _ ns)
 
-      nodes_shows : (xs : Nodes) (fs : List Frame) (c : Operand) (n : ℕ) (w : Walk) (t : Temps) (p : Place) (u : Supply) (scope : Scope) → AreTyped (names row lower s g checks loops small there) scope xs → AreClosed g.family xs
+      pub nodes_shows : (xs : Nodes) (fs : List Frame) (c : Operand) (n : ℕ) (w : Walk) (t : Temps) (p : Place) (u : Supply) (scope : Scope) → AreTyped (names row lower s g checks loops small there) scope xs → AreClosed g.family xs
           → Begins m s g w (Standing t p) → Hold scope t → Inv p.store → Solves m s n (walk g xs fs c n w).steps → Matches s (walk g xs fs c n w).given u → NotStuck (nodes_with run (on s c) xs t u p)
           → Show (walk g xs fs c n w) (allow (outs_of s fs) (nodes_with run (on s c) xs t u p))
       nodes_shows none fs c n w t p u scope k z h hold inv ok mt ns = record { after = h; entries = tt; events = tt }

@@ -106,11 +106,17 @@ abbrev pub HasEvent : Names → Goal → List Event → Type 0
 HasEvent s goal [] = ⊥
 HasEvent s goal (e ∷ es) = ((e.goal ≡ goal) × (on s e.literal ≡ true)) ⊎ HasEvent s goal es
 
+-- the row that stands for a loop's ranking
+abbrev pub rank_row : Kind → ℕ
+rank_row Bottom = 0
+rank_row Plain = 0
+rank_row (Rows n) = suc n
+
 -- the end of a run at an event of this goal
-abbrev pub goal_end : Goal → End
-goal_end (RowGoal l i) = Fallen l i
-goal_end (RankGoal l) = Fallen 0 0
-goal_end (CheckGoal c) = Over (Broken c)
+abbrev pub end_of : Setting → Goal → End
+end_of g (RowGoal l i) = Fallen l i
+end_of g (RankGoal l) = Fallen l (rank_row (g.kind l))
+end_of g (CheckGoal c) = Over (Broken c)
 
 abbrev pub EndsAt : End → Result (Unit {0}) → Type 0
 EndsAt e (Go u s) = ⊥
@@ -119,7 +125,7 @@ EndsAt e (Halt x s) = x ≡ e
 -- some choices make a cut run end at an event of this goal, whatever choices follow
 abbrev pub IsReached : CodeTree → Family → ℕ → RowsOf → RanksOf → (ℕ → Kind) → Goal → Type 0
 IsReached c f k row lower kind goal =
-    (choices : List ℤ) × ((rest : List ℤ) (turns : ℕ) → EndsAt (goal_end goal)
+    (choices : List ℤ) × ((rest : List ℤ) (turns : ℕ) → EndsAt (end_of (setting_of c f k kind) goal)
         (run_code c (limit_of c f (Cut k (starts row (setting_of c f k kind)))) (tests row lower (setting_of c f k kind)) (start c (choices ++ rest) turns)))
 
 -- where names solve the equations of a well-formed code over its sets and an event is true, some cut run ends there
