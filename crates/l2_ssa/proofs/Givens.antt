@@ -1,5 +1,5 @@
 -- Each solution gives a supply.
-use Rattle.std.proofs.Common.{arith, ◌≡◌, ℕ, zero, suc, ◌<◌, ℤ, pos, Bool, true, false, not, refl, sym, ap, ◌∙◌, subst, List, [], ◌∷◌, cond}
+use Rattle.std.proofs.Common.{◌≡◌, ℕ, zero, suc, ◌<◌, ℤ, pos, Bool, true, false, not, refl, sym, ap, ◌∙◌, List, [], ◌∷◌, cond}
 use Rattle.std.specs.Ordering.{int_eq}
 use Rattle.l2_bits.specs.Values.{wrap, IsValue}
 use Rattle.l2_bits.proofs.Wraps.{wrap_of_value}
@@ -13,7 +13,7 @@ use Rattle.l2_code.specs.declared.action.Action.TheVariants as action
 use Rattle.l2_code.specs.Trees.{Node, Do, Block, Loop, Nodes, none, more}
 use Rattle.l2_code.specs.Values.{is_true}
 use Rattle.l2_supply.specs.Supply.{Supply, nil, one, two}
-use Rattle.l2_ssa.specs.Steps.{Step, Names, on, bit, number_in, Meaning, Solves}
+use Rattle.l2_ssa.specs.Steps.{Names, on, bit, number_in, Meaning, Solves}
 use Rattle.l2_ssa.specs.Walks as walks
 use Rattle.l2_ssa.specs.Walks.{Setting, Walk, Frame, Given, nothing, entering, chosen, taken, half, pair, Kind, Bottom, Plain, Rows, past, is_last, copy_frame, count_steps, count_name, scatter_one, scatter_cells, scatter, head_rows, end_turn, walk_copies, walk_loop, walk_action, walk_node, walk}
 use Rattle.l2_ssa.proofs.Shows.{solves_first, solves_second}
@@ -94,9 +94,10 @@ module _ (m : Meaning) (s : Names) (g : Setting) where
         let n1 = past (past n x) o.steps in
         let et = end_turn g kind d l w.slots n1 o.after in
         let ok1 = solves_second m s g n x _ ok in
-        let ok2 = solves_second m s g (past n x) o.steps _ ok1 in
-        (bg (copy_frame (is_last k) b) d (past n x) (record w { temps = temps }) (solves_first m s g (past n x) o.steps _ ok1),
-         copies_given kind b c temps k (past n1 et.steps) et.after (solves_second m s g n1 et.steps _ ok2))
+        let ok2 = solves_second m s g (past n x) o.steps _ ok1 in (
+          bg (copy_frame (is_last k) b) d (past n x) (record w { temps = temps }) (solves_first m s g (past n x) o.steps _ ok1),
+          copies_given kind b c temps k (past n1 et.steps) et.after (solves_second m s g n1 et.steps _ ok2),
+        )
 
     loop_given : (kind : Kind) (c : Operand) (n : ℕ) (w : Walk) → Solves m s n (walk_loop g kind body l c n w).steps → AreGiven s (walk_loop g kind body l c n w).given
     loop_given Bottom c n w ok = (tt, (tt, copies_given Bottom walks.F c w.temps g.copies n w ok))
@@ -105,9 +106,13 @@ module _ (m : Meaning) (s : Names) (g : Setting) where
         let x = scatter g w.path (Temp n) (g.mods l) (suc n) w in
         let n1 = past (suc n) x.steps in
         let h = head_rows g w.path (Temp n) l 1 r n1 x.after in
-        let ok2 = solves_second m s g (suc n) x.steps _ ok.1 in
-        (ok.0, ((scatter_given w.path (Temp n) (g.mods l) (suc n) w (solves_first m s g (suc n) x.steps _ ok.1), tt),
-            copies_given (Rows r) (Temp n) c w.temps g.copies (past n1 h.steps) h.walk (solves_second m s g n1 h.steps _ ok2)))
+        let ok2 = solves_second m s g (suc n) x.steps _ ok.1 in (
+          ok.0,
+          (
+            (scatter_given w.path (Temp n) (g.mods l) (suc n) w (solves_first m s g (suc n) x.steps _ ok.1), tt),
+            copies_given (Rows r) (Temp n) c w.temps g.copies (past n1 h.steps) h.walk (solves_second m s g n1 h.steps _ ok2),
+          ),
+        )
 
   mutual
     node_given : (x : Node) (fs : List Frame) (c : Operand) (n : ℕ) (w : Walk) → Solves m s n (walk_node g x fs c n w).steps → AreGiven s (walk_node g x fs c n w).given

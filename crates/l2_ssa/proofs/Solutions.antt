@@ -1,28 +1,21 @@
 -- The solutions of a code's equations are its cut runs.
-use Rattle.std.proofs.Common.{arith, ◌≡◌, ◌⊎◌, inl, inr, ℕ, zero, suc, ◌+◌, ◌<◌, ◌≤◌, ℤ, pos, Bool, true, false, not, refl, sym, ap, ◌∙◌, subst, List, [], ◌∷◌, ◌++◌, length, map, Option, Some, None}
+use Rattle.std.proofs.Common.{arith, ◌≡◌, inl, inr, ℕ, zero, suc, ◌+◌, ◌<◌, ◌≤◌, Bool, true, false, refl, sym, ap, ◌∙◌, subst, List, [], ◌∷◌, ◌++◌, length, map, Option, Some, None}
 use Rattle.std.specs.Prelude.{◌||◌, slice_get}
 use Rattle.l2_runs.specs.declared.cells.CellType.{CellType}
-use Rattle.l2_runs.specs.declared.cells.CellType.TheVariants.{Integer, Pointer}
 use Rattle.l2_runs.specs.declared.cells.CellValue.{CellValue}
-use Rattle.l2_runs.specs.declared.cells.CellValue.TheVariants.{Number}
-use Rattle.l2_runs.specs.declared.member.Member.{Member}
-use Rattle.l2_runs.specs.declared.outcome.Outcome.TheVariants.{Ended, Stopped, Broken, OutOfChoices, OutOfTurns}
 use Rattle.l2_runs.specs.Fits.{Layout, CellsFit}
-use Rattle.l2_runs.specs.Members.{targets, Within}
 use Rattle.l2_runs.specs.Numbers.{at_number}
-use Rattle.l2_runs.specs.Store.{Store}
-use Rattle.l2_runs.specs.Runs.{End, Over, Fallen, Result, Go, Halt, on_go, stop}
-use Rattle.l2_code.specs.declared.action.Operand.{Operand}
+use Rattle.l2_runs.specs.Runs.{End, Over, Fallen, Result, on_go, stop}
 use Rattle.l2_code.specs.declared.code.CodeObject.{CodeObject}
 use Rattle.l2_code.specs.Trees.{CodeTree}
-use Rattle.l2_code.specs.Values.{Temps, no_temps, operand_value}
+use Rattle.l2_code.specs.Values.{no_temps}
 use Rattle.l2_code.specs.Machine.{Way, On, Out}
 use Rattle.l2_code.specs.Sets.{Family, HasCell, IsResolved}
-use Rattle.l2_code.specs.Modes.{Cut, object_cells, types_of, first_object, first_store, limit_of, run_code, start}
+use Rattle.l2_code.specs.Modes.{Cut, object_cells, types_of, first_object, first_store}
 use Rattle.l2_code.specs.WellFormed.{IsWellFormed, IsStuck, empty_scope}
 use Rattle.l2_code_laws.specs.Holding.{StoreHolds, TempsHold}
 use Rattle.l2_code_laws.proofs.Starts.{small_objects, limits_hold, start_holds}
-use Rattle.l2_supply.specs.Supply.{Supply, Place, at, Come, Goes, Ends, result_of, Chosen}
+use Rattle.l2_supply.specs.Supply.{Supply, Place, Come, Goes, Ends, Chosen}
 use Rattle.l2_supply.specs.Going.{nodes_with, machine_of}
 use Rattle.l2_supply.proofs.Runs.{nodes_agree}
 use Rattle.l2_ssa.specs.Steps.{Names, on, Meaning, Solves}
@@ -30,7 +23,7 @@ use Rattle.l2_ssa.specs.Walks as walks
 use Rattle.l2_ssa.specs.Walks.{Setting, Kind, Goal, Event, walk}
 use Rattle.l2_ssa.specs.Law.{RowsOf, RanksOf, tests, starts, setting_of, constants, flag_of, first_slots, first_walk, ssa, HasEvent, end_of, EndsAt, IsReached, SolutionsRun}
 use Rattle.l2_ssa.proofs.Shows.{SameLength, CellsRead, SlotsRead, Sized, Begins, Standing, AllFalse, OneTrue, OneIf, Shows, is_shown}
-use Rattle.l2_ssa.proofs.Frames.{Matches, outs_of, allow, NotStuck}
+use Rattle.l2_ssa.proofs.Frames.{outs_of, allow, NotStuck}
 use Rattle.l2_ssa.proofs.Givens.{supply_of, match_own, nodes_given}
 use Rattle.l2_ssa.proofs.Whole.{run, nodes_shows}
 
@@ -149,8 +142,8 @@ module _ (c : CodeTree) (f : Family) (w : IsWellFormed c) (z : IsResolved c f) (
     solution_runs =
         reached (come u)
         (nodes_shows row lower s g (length c.checks) (length c.loops) (small_objects c w) there refl k0 refl (limits_hold c f w z (Cut (suc k0) (starts row g))) c.body [] walks.T 0 (first_walk c) no_temps p0 u empty_scope
-            w.typed z.closed.actions begins temps_hold stored ok (match_own s (ssa c f (suc k0) kind).given (nodes_given m s g c.body [] walks.T 0 (first_walk c) ok))
-            (not_stuck (come u) ((nodes_agree the_run true c.body no_temps).by_supply p0 u)))
+        w.typed z.closed.actions begins temps_hold stored ok (match_own s (ssa c f (suc k0) kind).given (nodes_given m s g c.body [] walks.T 0 (first_walk c) ok))
+        (not_stuck (come u) ((nodes_agree the_run true c.body no_temps).by_supply p0 u)))
         ((nodes_agree the_run true c.body no_temps).by_supply p0 u)
 
 pub solutions_run : SolutionsRun

@@ -126,7 +126,7 @@ EndsAt e (Halt x s) = x ≡ e
 abbrev pub IsReached : CodeTree → Family → ℕ → RowsOf → RanksOf → (ℕ → Kind) → Goal → Type 0
 IsReached c f k row lower kind goal =
     (choices : List ℤ) × ((rest : List ℤ) (turns : ℕ) → EndsAt (end_of (setting_of c f k kind) goal)
-        (run_code c (limit_of c f (Cut k (starts row (setting_of c f k kind)))) (tests row lower (setting_of c f k kind)) (start c (choices ++ rest) turns)))
+    (run_code c (limit_of c f (Cut k (starts row (setting_of c f k kind)))) (tests row lower (setting_of c f k kind)) (start c (choices ++ rest) turns)))
 
 -- where names solve the equations of a well-formed code over its sets and an event is true, some cut run ends there
 abbrev pub SolutionsRun : Type 0
