@@ -9,3 +9,5 @@ pub mod Heads
 pub mod Turns
 pub mod Copies
 pub mod Whole
+pub mod Givens
+pub mod Solutions
