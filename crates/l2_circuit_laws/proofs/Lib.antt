@@ -4,3 +4,4 @@ pub mod Numbers
 pub mod Products
 pub mod Quotients
 pub mod Shown
+pub mod Signed
