@@ -5,3 +5,4 @@ pub mod Products
 pub mod Quotients
 pub mod Shown
 pub mod Signed
+pub mod Constants

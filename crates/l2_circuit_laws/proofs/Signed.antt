@@ -1,16 +1,16 @@
 -- Comparisons of words that show numbers.
-use Rattle.std.proofs.Common.{◌≡◌, ◌≢◌, ℕ, zero, suc, ◌+◌, ◌-◌, ◌*◌, ◌%◌, ◌^◌, ◌≤◌, ◌<◌, Bool, true, false, not, ℤ, pos, negsuc, neg_ℤ, ◌+ℤ◌, ◌≤ℤ◌, ◌<ℤ◌, int_lt, refl, sym, ap, ◌∙◌, subst, List, [], ◌∷◌, length, ◌⊎◌, inl, inr, ⊎_elim, arith}
+use Rattle.std.proofs.Common.{◌≡◌, ◌≢◌, ℕ, zero, suc, ◌+◌, ◌-◌, ◌*◌, ◌%◌, ◌^◌, ◌≤◌, ◌<◌, Bool, true, false, not, ℤ, pos, negsuc, neg_ℤ, ◌+ℤ◌, ◌≤ℤ◌, ◌<ℤ◌, int_lt, refl, sym, ap, ◌∙◌, subst, List, [], ◌∷◌, length, arith}
 use Rattle.std.specs.Prelude.{nat_lt, nat_eq}
 use Rattle.std.specs.Ordering.{int_eq}
 use Rattle.std.proofs.lemmas.Int.{ints}
 use Rattle.std.proofs.lemmas.Bool.Decides.{nat_tests}
 use Rattle.std.proofs.Math.Nat.{mod-eq_of_lt}
 use Rattle.l2_bits.specs.Values.{residue}
-use Rattle.l2_gates.specs.Gates.{Lit, negated, F, Made, Bit}
-use Rattle.l2_gates.specs.Models.{value, Ok, Gives}
+use Rattle.l2_gates.specs.Gates.{Lit, Made}
+use Rattle.l2_gates.specs.Models.{value, Gives}
 use Rattle.l2_gates.proofs.Values.{negated_value}
-use Rattle.l2_circuits.specs.Words.{top, top_negated, ltu, lts, less, less_equal, eq}
-use Rattle.l2_circuit_laws.specs.Values.{values, bit_number, number, power, SameSize}
+use Rattle.l2_circuits.specs.Words.{top_negated, ltu, lts, less, less_equal, eq}
+use Rattle.l2_circuit_laws.specs.Values.{values, bit_number, number, power}
 use Rattle.l2_circuit_laws.specs.Shows.{Shows, IsSigned, IsUnsigned, Fits, LessShows, LessEqualShows, EqualShows}
 use Rattle.l2_circuit_laws.proofs.Numbers.{less_gives, equal_gives}
 use Rattle.l2_circuit_laws.proofs.Shown.{same_of_length, power_is}
@@ -96,12 +96,16 @@ less_offset p q h x y e f = go (nat_lt p q) refl
   where
     under : (a b : ℤ) → a <ℤ b → int_lt a b ≡ true
     under a b l = grind (arith, ints)
+
     from : (a b : ℤ) → b ≤ℤ a → int_lt a b ≡ false
     from a b l = grind (arith, ints)
+
     lt_is : (a b : ℕ) → nat_lt a b ≡ true → a < b
     lt_is a b g = grind (arith, nat_tests)
+
     ge_is : (a b : ℕ) → nat_lt a b ≡ false → b ≤ a
     ge_is a b g = grind (arith, nat_tests)
+
     go : (t : Bool) → nat_lt p q ≡ t → t ≡ int_lt x y
     go true g = sym (under x y (let l = lt_is p q g in omega (arith, ints)))
     go false g = sym (from x y (let l = ge_is p q g in omega (arith, ints)))
@@ -129,12 +133,16 @@ equal_test p q x y f g = go (nat_eq p q) refl
   where
     eq_is : (a b : ℕ) → nat_eq a b ≡ true → a ≡ b
     eq_is a b h = grind (arith, nat_tests)
+
     ne_is : (a b : ℕ) → nat_eq a b ≡ false → a ≢ b
     ne_is a b h = grind (arith, nat_tests)
+
     same : (a b : ℤ) → a ≡ b → int_eq a b ≡ true
     same a b h = grind (arith, ints)
+
     apart : (a b : ℤ) → a ≢ b → int_eq a b ≡ false
     apart a b h = grind (arith, ints)
+
     go : (t : Bool) → nat_eq p q ≡ t → t ≡ int_eq x y
     go true h = sym (same x y (f (eq_is p q h)))
     go false h = sym (apart x y (λ e. ne_is p q h (g e)))
@@ -153,9 +161,9 @@ module _ (v : ℕ → Bool) (truth : v 0 ≡ true) where
       let to = subst (λ i. x <ℤ pos (2 ^ i)) minus f.to in
       ap (λ z. pos (number z)) (turned_values v (b ∷ a))
       ∙ offset (2 ^ k) (2 ^ suc k) (number w) (number (top_turned w)) (top_bit w) x (halves k) from to s.number
-          (λ e. ap (λ h. number (top_turned w) + h) (sym half) ∙ r.down e)
-          (λ e. r.up e ∙ ap (λ h. number w + h) half)
-          (λ e. subst (λ h. number w < h) half (r.low e))
+      (λ e. ap (λ h. number (top_turned w) + h) (sym half) ∙ r.down e)
+      (λ e. r.up e ∙ ap (λ h. number w + h) half)
+      (λ e. subst (λ h. number w < h) half (r.low e))
       ∙ ap (λ i. x +ℤ pos (2 ^ i)) (sym minus)
 
   less_signed : (n : ℕ) (a b : List Lit) (x y : ℤ) (m : Made) → 1 ≤ n → IsSigned n x → IsSigned n y → Shows v n a x → Shows v n b y → Gives v m (int_lt x y) (lts a b m)
@@ -191,6 +199,7 @@ module _ (v : ℕ → Bool) (truth : v 0 ≡ true) where
       doubled : (n : ℕ) → 1 ≤ n → 2 ^ n ≡ 2 * 2 ^ (n - 1)
       doubled zero h = absurd (omega arith)
       doubled (suc k) h = let q : suc k - 1 ≡ k = omega arith in halves k ∙ ap (λ i. 2 * 2 ^ i) (sym q)
+
       near : (h N : ℕ) (x y : ℤ) → N ≡ 2 * h → neg_ℤ (pos h) ≤ℤ x → x <ℤ pos h → neg_ℤ (pos h) ≤ℤ y → y <ℤ pos h → residue N x ≡ residue N y → x ≡ y
       near h N (pos j) (pos k) q a b c d e = let r : j % N ≡ j = mod-eq_of_lt (omega (arith, ints)) in let s : k % N ≡ k = mod-eq_of_lt (omega (arith, ints)) in ap pos (sym r ∙ e ∙ s)
       near h N (pos j) (negsuc k) q a b c d e =
