@@ -6,3 +6,4 @@ pub mod Quotients
 pub mod Shown
 pub mod Signed
 pub mod Constants
+pub mod Makings
