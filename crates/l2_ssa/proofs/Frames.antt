@@ -12,13 +12,14 @@ use Rattle.l2_code.specs.Values.{is_true}
 use Rattle.l2_code.specs.Machine.{Way, On, Out}
 use Rattle.l2_supply.specs.Supply.{Supply, left, right, number_of, Place, Come, Goes, Ends}
 use Rattle.l2_ssa.specs.Steps.{Step, Names, on, bit, Meaning, Solves}
-use Rattle.l2_ssa.specs.Walks.{Frame, Block, Last, Early, Given, nothing, chosen, taken, half, pair, leave_steps, leave_path}
+use Rattle.l2_ssa.specs.Walks.{Frame, Block, Last, Early, Given, nothing, entering, chosen, taken, half, pair, leave_steps, leave_path}
 use Rattle.l2_ssa.proofs.Labels.{bit_on}
 
 module _ (s : Names) where
   -- the names are those that a supply gives
   abbrev pub Matches : Given → Supply → Type 0
   Matches nothing u = Unit {0}
+  Matches entering u = int_eq (number_of u) (pos 0) ≡ true
   Matches (chosen n) u = s n ≡ bit (not (int_eq (number_of u) (pos 0)))
   Matches (taken n ty) u = s n ≡ Number (wrap ty (number_of u))
   Matches (half n) u = s n ≡ Number (number_of u)

@@ -5,3 +5,7 @@ pub mod Acts
 pub mod Reaches
 pub mod Frames
 pub mod Instructions
+pub mod Heads
+pub mod Turns
+pub mod Copies
+pub mod Whole
