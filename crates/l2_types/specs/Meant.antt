@@ -1,38 +1,24 @@
 -- What an expression stands for, and the checks that an operator may have.
-use Rattle.std.specs.Prelude.{ℕ, ◌/◌, ◌==◌, pos, Bool, true, false, ◌&&◌, not, if◌then◌else◌, nat_lt, Option, Some, None}
+use Rattle.std.specs.Prelude.{ℕ, ◌/◌, ◌==◌, Bool, true, false, ◌&&◌, not, if◌then◌else◌, nat_lt, Option, Some, None}
 use Rattle.l2_bits.specs.declared.types.Ty.{Ty}
-use Rattle.l2_bits.specs.Types.{int_type, ulong_type}
 use Rattle.l2_syntax.specs.declared.place.Place.{Place}
 use Rattle.l2_syntax.specs.declared.token.Scalar.{Scalar}
-use Rattle.l2_syntax.specs.declared.token.Scalar.TheVariants.{Int, ULong}
-use Rattle.l2_syntax.specs.declared.refusal.Rule.TheVariants.{UnknownName, BadType, Lvalue as LvalueRule}
+use Rattle.l2_syntax.specs.declared.refusal.Rule.TheVariants.{BadType}
 use Rattle.l2_runs.specs.declared.kind.Kind.{Kind}
 use Rattle.l2_runs.specs.declared.kind.Kind.TheVariants.{Overflow}
-use Rattle.l2_tree.specs.declared.operators.UnaryOperator.{UnaryOperator}
-use Rattle.l2_tree.specs.declared.operators.UnaryOperator.TheVariants as unary_operator
 use Rattle.l2_types.specs.declared.types.CType.{CType}
-use Rattle.l2_types.specs.declared.types.CType.TheVariants.{Void, Integer}
+use Rattle.l2_types.specs.declared.types.CType.TheVariants.{Integer}
 use Rattle.l2_types.specs.declared.typed.Lvalue.{Lvalue}
-use Rattle.l2_types.specs.declared.typed.Lvalue.TheVariants.{Object as ObjectAt}
 use Rattle.l2_types.specs.declared.typed.Arithmetic.{Arithmetic as ArithmeticOperator}
-use Rattle.l2_types.specs.declared.typed.Negation.TheVariants.{Negate, Complement, Not}
 use Rattle.l2_types.specs.declared.typed.Checks.{Checks}
-use Rattle.l2_types.specs.declared.typed.Gives.{Gives}
-use Rattle.l2_types.specs.declared.typed.Gives.TheVariants.{After}
-use Rattle.l2_types.specs.declared.state.Meaning.{Meaning}
-use Rattle.l2_types.specs.declared.state.Meaning.TheVariants as meaning
-use Rattle.l2_types.specs.declared.operators.Class.{Class}
-use Rattle.l2_types.specs.declared.operators.Class.TheVariants.{Computes, Shifts, Compares, Joins}
-use Rattle.l2_types.specs.declared.operators.Assigning.{Assigning}
-use Rattle.l2_types.specs.declared.operators.Assigning.TheVariants.{Plainly, Computing, Shifting}
 use Rattle.l2_types.specs.declared.meant.Meant.{Meant}
 use Rattle.l2_types.specs.declared.meant.Meant.TheVariants as meant
 use Rattle.l2_types.specs.declared.meant.Operand.{Operand}
 use Rattle.l2_types.specs.declared.meant.Operand.TheVariants as operand
-use Rattle.l2_types.specs.Types.{type_of_scalar, promoted, common}
+use Rattle.l2_types.specs.Types.{type_of_scalar}
 use Rattle.l2_types.specs.Operators.{defined_kind, can_overflow}
-use Rattle.l2_types.specs.Trees.{TypedTree, Constant, Read, Convert, Unary, Arithmetic, Compare, Join, Conditional, Comma, Assign, Update, Discard, typed_tree}
-use Rattle.l2_types.specs.States.{State, Seen, saw, next, with_fault, with_check, with_use, check_number}
+use Rattle.l2_types.specs.Trees.{TypedTree, Read, Convert, typed_tree}
+use Rattle.l2_types.specs.States.{State, Seen, saw, next, with_fault, with_check, check_number}
 
 -- what an expression stands for
 pub data MeantTree : Type 0 where

@@ -1,5 +1,5 @@
 -- Scopes, and what is declared in them (C11 6.2.1).
-use Rattle.std.specs.Prelude.{ℕ, ◌+◌, ◌==◌, Bool, true, false, ◌&&◌, ◌||◌, if◌then◌else◌, List, [], ◌∷◌, ◌++◌, length, take, Option, None, Some}
+use Rattle.std.specs.Prelude.{ℕ, ◌+◌, ◌==◌, Bool, true, false, ◌&&◌, ◌||◌, if◌then◌else◌, List, [], ◌∷◌, ◌++◌, length, take, Option, Some}
 use Rattle.l2_syntax.specs.declared.place.Place.{Place}
 use Rattle.l2_syntax.specs.declared.refusal.Rule.TheVariants.{Redeclared}
 use Rattle.l2_types.specs.declared.state.Meaning.{Meaning}

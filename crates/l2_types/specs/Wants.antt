@@ -1,26 +1,17 @@
 -- What a call needs to know of the function that is called, and what it asks of its arguments.
-use Rattle.std.specs.Prelude.{ℕ, ◌==◌, Bool, true, false, ◌&&◌, if◌then◌else◌, List, length, slice_get, Option, Some, None}
-use Rattle.l2_syntax.specs.declared.place.Place.{Place}
+use Rattle.std.specs.Prelude.{ℕ, ◌==◌, ◌&&◌, if◌then◌else◌, List, length, slice_get, Option, Some, None}
 use Rattle.l2_syntax.specs.declared.token.Scalar.TheVariants.{Int}
-use Rattle.l2_syntax.specs.declared.refusal.Rule.TheVariants.{UnknownName, BadType, Call as CallRule}
-use Rattle.l2_runs.specs.declared.kind.Kind.TheVariants.{Assertion}
-use Rattle.l2_tree.specs.Trees as tree
-use Rattle.l2_tree.specs.Trees.{ExprTree}
 use Rattle.l2_types.specs.declared.types.CType.{CType}
-use Rattle.l2_types.specs.declared.types.CType.TheVariants.{Void, Integer}
+use Rattle.l2_types.specs.declared.types.CType.TheVariants.{Integer}
 use Rattle.l2_types.specs.declared.state.Builtin.{Builtin}
 use Rattle.l2_types.specs.declared.state.Builtin.TheVariants as name
 use Rattle.l2_types.specs.declared.state.Meaning.{Meaning}
 use Rattle.l2_types.specs.declared.state.Meaning.TheVariants as meaning
 use Rattle.l2_types.specs.declared.state.Signature.{Signature}
 use Rattle.l2_types.specs.declared.state.Callable.{Callable}
-use Rattle.l2_types.specs.declared.state.Callee.{Callee}
-use Rattle.l2_types.specs.declared.state.Callee.TheVariants.{Named, Other}
 use Rattle.l2_types.specs.declared.state.Want.{Want}
 use Rattle.l2_types.specs.declared.state.Want.TheVariants.{Anything, Fitting, Testing, Literal}
-use Rattle.l2_types.specs.Types.{type_of_scalar}
-use Rattle.l2_types.specs.Trees.{TypedTree, TypedTrees, no_trees, and_tree, Call, Choice, Assert, Fail, Assume, Exit, Abort}
-use Rattle.l2_types.specs.States.{State, Seen, saw, next, with_fault, with_call}
+use Rattle.l2_types.specs.States.{State}
 
 abbrev pub fitting : Option CType → Want
 fitting None = Anything
@@ -57,4 +48,3 @@ callable_of (Some g) count =
 
 abbrev pub callable : State → ℕ → ℕ → Option Callable
 callable s f count = callable_of (slice_get s.functions f) count
-

@@ -13,7 +13,9 @@ mod types;
 pub use error::CheckError;
 pub use make::{converted, integer, size_of};
 pub use meant::{Meant, Operand};
-pub use operators::{Assigning, Class, assignment_of, can_overflow, class_of, defined_kind, step_of};
+pub use operators::{
+    Assigning, Class, assignment_of, can_overflow, class_of, defined_kind, step_of,
+};
 pub use state::{Builtin, Callable, Callee, Entry, Meaning, Signature, Site, TagEntry, Want};
 pub use table::{Outer, Scope, Table};
 pub use typed::{Arithmetic, Checks, Comparison, Gives, Junction, Lvalue, Negation, Typed};

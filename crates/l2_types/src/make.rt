@@ -45,9 +45,5 @@ pub fn size_of(a: Scalar) -> i128
     ensures { result ≡ pos (size_of a) }
 {
     let width = type_of_scalar(a).width;
-    if width < 8 {
-        1
-    } else {
-        i128::from(width / 8)
-    }
+    if width < 8 { 1 } else { i128::from(width / 8) }
 }

@@ -94,10 +94,8 @@ pub fn can_overflow(op: Arithmetic) -> bool
     ensures { result ≡ can_overflow op }
 {
     match op {
-        Arithmetic::Add
-        | Arithmetic::Subtract
-        | Arithmetic::Multiply
-        | Arithmetic::ShiftLeft => true,
+        Arithmetic::Add | Arithmetic::Subtract | Arithmetic::Multiply | Arithmetic::ShiftLeft =>
+            true,
         _ => false,
     }
 }

@@ -55,19 +55,19 @@ impl Model for Table {
     ghost Value = { State };
 
     ghost view = { λ t. record {
-        scope = t.scope.items;
-        tags = t.tags.items;
-        level = t.level;
-        functions = t.functions.items;
-        overflow = t.overflow;
-        numbers = t.numbers.items;
-        faults = t.faults.items;
-        checks = t.checks.items;
-        calls = t.calls.items;
-        uses = t.uses.items;
-        values = t.values.items;
-        has_default = t.has_default;
-        has_declared = t.has_declared;
+      scope = t.scope.items;
+      tags = t.tags.items;
+      level = t.level;
+      functions = t.functions.items;
+      overflow = t.overflow;
+      numbers = t.numbers.items;
+      faults = t.faults.items;
+      checks = t.checks.items;
+      calls = t.calls.items;
+      uses = t.uses.items;
+      values = t.values.items;
+      has_default = t.has_default;
+      has_declared = t.has_declared;
     } };
 }
 
@@ -409,8 +409,16 @@ pub fn wanted_by_builtin(b: Builtin, count: usize) -> Want
     ensures { result ≡ wanted_by_builtin b count }
 {
     match b {
-        Builtin::Assert | Builtin::Assume => if count == 1 { Want::Testing } else { Want::Anything },
-        Builtin::Exit => if count == 1 { Want::Fitting(CType::Integer(Scalar::Int)) } else { Want::Anything },
+        Builtin::Assert | Builtin::Assume => if count == 1 {
+            Want::Testing
+        } else {
+            Want::Anything
+        },
+        Builtin::Exit => if count == 1 {
+            Want::Fitting(CType::Integer(Scalar::Int))
+        } else {
+            Want::Anything
+        },
         Builtin::AssertFail => Want::Literal,
         _ => Want::Anything,
     }
