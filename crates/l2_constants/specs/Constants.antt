@@ -16,7 +16,7 @@ use Rattle.l2_types.specs.declared.typed.Negation.{Negation}
 use Rattle.l2_types.specs.declared.typed.Negation.TheVariants.{Negate, Complement, Not}
 use Rattle.l2_constants.specs.declared.constants.Folded.{Folded}
 use Rattle.l2_constants.specs.declared.constants.Folded.TheVariants.{Varies, Breaks, Number}
-use Rattle.l2_constants.specs.Trees as tree
+use Rattle.l2_types.specs.Trees as tree
 use Rattle.l2_types.specs.Trees.{TypedTree}
 
 abbrev pub truth : Bool → ℤ

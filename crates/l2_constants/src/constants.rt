@@ -6,8 +6,8 @@ ghost use Rattle.l2_bits.specs.declared.operators.Op.{Op};
 ghost use Rattle.l2_types.specs.Trees.{typed_tree};
 ghost use Rattle.l2_constants.specs.Constants.{compared, unless_over, or_breaks, or_overflows, arithmetic, right_operand, negation, fold_convert, fold_unary, fold_arithmetic, fold_compare, stops, fold_join, both, fold_conditional, fold};
 
-use l2_types::{Arithmetic, Comparison, Junction, Negation, Typed};
 use l2_bits::{Op, Ty, add, and, convert, div, mul, or, overflows, rem, shl, shr, sub, wrap, xor};
+use l2_types::{Arithmetic, Comparison, Junction, Negation, Typed};
 
 /// What an expression is before anything is evaluated.
 #[derive(Clone, Copy, Debug, PartialEq, Eq)]
@@ -35,7 +35,11 @@ fn compared(op: Comparison, a: i128, b: i128) -> bool
 fn unless_over(over: bool, v: i128) -> Folded
     ensures { result ≡ unless_over over v }
 {
-    if over { Folded::Breaks } else { Folded::Number(v) }
+    if over {
+        Folded::Breaks
+    } else {
+        Folded::Number(v)
+    }
 }
 
 fn or_breaks(v: Option<i128>) -> Folded
@@ -170,8 +174,16 @@ fn fold_join(op: Junction, x: Folded, y: Folded) -> Folded
         },
         Folded::Number(a) => match y {
             Folded::Varies => Folded::Varies,
-            Folded::Breaks => if stops(op, a) { Folded::Number(i128::from(a != 0)) } else { Folded::Breaks },
-            Folded::Number(b) => if stops(op, a) { Folded::Number(i128::from(a != 0)) } else { Folded::Number(i128::from(b != 0)) },
+            Folded::Breaks => if stops(op, a) {
+                Folded::Number(i128::from(a != 0))
+            } else {
+                Folded::Breaks
+            },
+            Folded::Number(b) => if stops(op, a) {
+                Folded::Number(i128::from(a != 0))
+            } else {
+                Folded::Number(i128::from(b != 0))
+            },
         },
     }
 }
@@ -206,11 +218,18 @@ pub fn fold(may: bool, e: &Typed) -> Folded
         Typed::Constant(_, v) => Folded::Number(*v),
         Typed::Convert(ty, e) => fold_convert(*ty, fold(may, e)),
         Typed::Unary(op, ty, _, e) => fold_unary(may, *op, *ty, fold(may, e)),
-        Typed::Arithmetic(op, ty, _, x, y) => fold_arithmetic(may, *op, *ty, fold(may, x), fold(may, y)),
+        Typed::Arithmetic(op, ty, _, x, y) => fold_arithmetic(
+            may,
+            *op,
+            *ty,
+            fold(may, x),
+            fold(may, y),
+        ),
         Typed::Compare(op, _, x, y) => fold_compare(*op, fold(may, x), fold(may, y)),
         Typed::Join(op, x, y) => fold_join(*op, fold(may, x), fold(may, y)),
         Typed::Conditional(c, x, y) => fold_conditional(fold(may, c), fold(may, x), fold(may, y)),
-        Typed::Choice(..) | Typed::Read(..) | Typed::Comma(..) | Typed::Assign(..) => Folded::Varies,
+        Typed::Choice(..) | Typed::Read(..) | Typed::Comma(..) | Typed::Assign(..) =>
+            Folded::Varies,
         Typed::Update(..) | Typed::Call(..) | Typed::Assert(..) | Typed::Fail(..) => Folded::Varies,
         Typed::Assume(..) | Typed::Exit(..) | Typed::Abort | Typed::Discard(..) => Folded::Varies,
     }
