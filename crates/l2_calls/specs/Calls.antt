@@ -1,18 +1,15 @@
 -- Calls of functions and of built-in names, when their arguments are known.
-use Rattle.std.specs.Prelude.{ℕ, ◌==◌, Bool, true, false, ◌&&◌, if◌then◌else◌, List, length, slice_get, Option, Some, None}
+use Rattle.std.specs.Prelude.{ℕ, ◌==◌, Bool, true, false, Option, Some, None}
 use Rattle.l2_syntax.specs.declared.place.Place.{Place}
-use Rattle.l2_syntax.specs.declared.token.Scalar.TheVariants.{Int}
 use Rattle.l2_syntax.specs.declared.refusal.Rule.TheVariants.{UnknownName, BadType, Call as CallRule}
 use Rattle.l2_runs.specs.declared.kind.Kind.TheVariants.{Assertion}
 use Rattle.l2_tree.specs.Trees as tree
 use Rattle.l2_tree.specs.Trees.{ExprTree}
-use Rattle.l2_types.specs.declared.types.CType.{CType}
 use Rattle.l2_types.specs.declared.types.CType.TheVariants.{Void, Integer}
 use Rattle.l2_types.specs.declared.state.Builtin.{Builtin}
 use Rattle.l2_types.specs.declared.state.Builtin.TheVariants as name
 use Rattle.l2_types.specs.declared.state.Meaning.{Meaning}
 use Rattle.l2_types.specs.declared.state.Meaning.TheVariants as meaning
-use Rattle.l2_types.specs.declared.state.Signature.{Signature}
 use Rattle.l2_types.specs.declared.state.Callable.{Callable}
 use Rattle.l2_types.specs.declared.state.Callee.{Callee}
 use Rattle.l2_types.specs.declared.state.Callee.TheVariants.{Named, Other}
@@ -22,7 +19,6 @@ use Rattle.l2_types.specs.Types.{type_of_scalar}
 use Rattle.l2_types.specs.Trees.{TypedTree, TypedTrees, no_trees, and_tree, Call, Choice, Assert, Fail, Assume, Exit, Abort}
 use Rattle.l2_types.specs.States.{State, Seen, saw, next, with_fault, with_call}
 use Rattle.l2_types.specs.Meant.{MeantTree, Unknown, Value, OperandTree, NoValue, Of, integer, checked, converted}
-
 use Rattle.l2_types.specs.Wants.{callable}
 
 -- ---- how a call is spelt

@@ -7,10 +7,13 @@ ghost use Rattle.l2_types.specs.States.{saw};
 ghost use Rattle.l2_types.specs.Meant.{Value, meant_tree, operand_tree};
 ghost use Rattle.l2_calls.specs.Calls.{callee, is_literal, unfit, fitted, unless_right, last_of, builtin, called_function, called, fails};
 
-use l2_types::{Builtin, CType, Callable, Callee, CheckError, Meaning, Meant, Operand, Table, Typed, Want, converted, integer, type_of_scalar};
 use l2_runs::Kind;
 use l2_syntax::{Place, Rule, Scalar};
 use l2_tree::Expr;
+use l2_types::{
+    Builtin, CType, Callable, Callee, CheckError, Meaning, Meant, Operand, Table, Typed, Want,
+    converted, integer, type_of_scalar,
+};
 use std::alloc::Global;
 
 /// What is called: a name, perhaps in parentheses.

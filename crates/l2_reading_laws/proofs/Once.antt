@@ -1,23 +1,20 @@
 -- Reading an expression comes to one end.
-use Rattle.std.proofs.Common.{◌≡◌, ◌≤◌, ◌<◌, ◌-◌, ℕ, zero, suc, Option, List, [], ◌∷◌, map, drop, length, Some, None, refl, sym, ap, ◌∙◌, subst, arith}
+use Rattle.std.proofs.Common.{◌≡◌, ◌≤◌, ◌<◌, ◌-◌, ℕ, Option, List, [], ◌∷◌, drop, length, Some, refl, sym, ap, ◌∙◌, arith}
 use Rattle.std.proofs.lemmas.List.{length-map, length-drop}
 use Rattle.std.proofs.Math.ListN.{drop_of_length-le}
-use native.Mathlib.Decide.{Dec, yes, no, ℕ_discrete, dec_lt}
+use native.Mathlib.Decide.{ℕ_discrete, dec_lt}
 use Rattle.l2_syntax.specs.declared.token.Token.{Token}
 use Rattle.l2_syntax.specs.declared.refusal.Rule.{Rule as RefusalRule}
 use Rattle.l2_syntax.specs.declared.refusal.Rule.TheVariants as rule
 use Rattle.l2_syntax.specs.declared.refusal.Refusal.{Refusal}
-use Rattle.l2_grammar.specs.declared.states.Level.{Level}
 use Rattle.l2_grammar.specs.Trees.{Seen, Tree}
 use Rattle.l2_grammar.specs.Limits.{Rule, nesting, syntax}
-use Rattle.l2_grammar.specs.Expressions.{sort_at, Expressed, Whole, Broken, expression, NestsAt, BreaksAt, EndsBefore, ExpressionLaw, ExpressionNestingLaw, ExpressionSyntaxLaw}
-use Rattle.l2_lex.specs.Lexing.{Lexed}
-use Rattle.l2_tree.specs.Trees.{ExprTree}
+use Rattle.l2_grammar.specs.Expressions.{sort_at, Expressed, Whole, Broken, ExpressionLaw, ExpressionNestingLaw, ExpressionSyntaxLaw}
 use Rattle.l2_tree.specs.Spelling.{plain, run_expr}
 use Rattle.l2_tree.specs.Build.{expr_of, parts_of}
 use Rattle.l2_tree_laws.specs.Law.{ExpressionBackLaw}
 use Rattle.l2_parse_unit.specs.Reading.{kept}
-use Rattle.l2_parse_expr.specs.Reading.{kept_from, Reads, IsRefusedFrom, nested, stopped, lexical, ended}
+use Rattle.l2_parse_expr.specs.Reading.{kept_from, nested, stopped, lexical, ended}
 use Rattle.l2_reading_laws.specs.Law.{UniqueExpressionRefusalLaw, ExpressionRefusedLaw, ExpressionReadLaw}
 
 -- ---- the token at which a rest begins

@@ -1,13 +1,13 @@
 // The names of types.
 ghost use Rattle.std.specs.Prelude.{◌≡◌, IfOk};
-ghost use Rattle.l2_tree.specs.Units.{specifier_tree, parameter_tree};
-ghost use Rattle.l2_tree_names.specs.Specifiers.{base_tree};
+ghost use Rattle.l2_tree.specs.Units.{specifier_tree, specifiers_tree, parameter_tree};
+ghost use Rattle.l2_tree_laws.specs.Specifiers.{base_of};
 ghost use Rattle.l2_types.specs.States.{saw};
 ghost use Rattle.l2_types.specs.Meant.{meant_tree, operand_tree};
 ghost use Rattle.l2_types_expr.specs.TypeNames.{type_named, tag_type, based, function_of, type_name, size_of_name, cast_to};
 
 use l2_syntax::{Place, Rule, Scalar};
-use l2_tree::{Parameter, Specifier};
+use l2_tree::{Parameter, Specifier, Specifiers};
 use l2_tree_names::{BaseType, base_of};
 use l2_types::{CType, CheckError, Meaning, Meant, Operand, Table};
 use l2_values::{cast, sized, wrong};
@@ -56,10 +56,11 @@ fn tag_type(x: &Specifier) -> NamedType
 }
 
 /// The type that specifiers name.
-fn based(table: &mut Table, base: BaseType) -> Result<NamedType, CheckError>
-    ensures ok { IfOk result (λ t. based (base_tree base.entry) table.old ≡ saw t table.new) }
+#[tactic(auto, using(crate::proofs::Names::bases))]
+fn based(table: &mut Table, all: &Specifiers) -> Result<NamedType, CheckError>
+    ensures ok { IfOk result (λ t. based (base_of (specifiers_tree all.now)) table.old ≡ saw t table.new) }
 {
-    match base {
+    match base_of(all) {
         BaseType::Void => Ok(NamedType::Known(CType::Void)),
         BaseType::Number(a) => Ok(NamedType::Known(CType::Integer(a))),
         BaseType::Named(name, place) => {
@@ -85,9 +86,9 @@ pub fn type_name(table: &mut Table, t: &Parameter) -> Result<NamedType, CheckErr
     ensures ok { IfOk result (λ r. type_name (parameter_tree t.now) table.old ≡ saw r table.new) }
 {
     match t {
-        Parameter::Plain(all) => based(table, base_of(all)),
+        Parameter::Plain(all) => based(table, all),
         Parameter::Declared(all, _) => {
-            let base = based(table, base_of(all))?;
+            let base = based(table, all)?;
             Ok(function_of(base))
         }
     }

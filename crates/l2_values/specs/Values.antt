@@ -1,13 +1,10 @@
 -- What operators make of values and of lvalues (C11 6.5, for integers).
-use Rattle.std.specs.Prelude.{ℕ, ◌/◌, ◌==◌, pos, Bool, true, false, ◌&&◌, not, if◌then◌else◌, nat_lt, Option, Some, None}
-use Rattle.l2_bits.specs.declared.types.Ty.{Ty}
+use Rattle.std.specs.Prelude.{pos, Bool, true, false, Option, Some, None}
 use Rattle.l2_bits.specs.Types.{int_type, ulong_type}
 use Rattle.l2_syntax.specs.declared.place.Place.{Place}
 use Rattle.l2_syntax.specs.declared.token.Scalar.{Scalar}
 use Rattle.l2_syntax.specs.declared.token.Scalar.TheVariants.{Int, ULong}
-use Rattle.l2_syntax.specs.declared.refusal.Rule.TheVariants.{UnknownName, BadType, Lvalue as LvalueRule}
-use Rattle.l2_runs.specs.declared.kind.Kind.{Kind}
-use Rattle.l2_runs.specs.declared.kind.Kind.TheVariants.{Overflow}
+use Rattle.l2_syntax.specs.declared.refusal.Rule.TheVariants.{UnknownName, Lvalue as LvalueRule}
 use Rattle.l2_tree.specs.declared.operators.UnaryOperator.{UnaryOperator}
 use Rattle.l2_tree.specs.declared.operators.UnaryOperator.TheVariants as unary_operator
 use Rattle.l2_types.specs.declared.types.CType.{CType}
@@ -16,7 +13,6 @@ use Rattle.l2_types.specs.declared.typed.Lvalue.{Lvalue}
 use Rattle.l2_types.specs.declared.typed.Lvalue.TheVariants.{Object as ObjectAt}
 use Rattle.l2_types.specs.declared.typed.Arithmetic.{Arithmetic as ArithmeticOperator}
 use Rattle.l2_types.specs.declared.typed.Negation.TheVariants.{Negate, Complement, Not}
-use Rattle.l2_types.specs.declared.typed.Checks.{Checks}
 use Rattle.l2_types.specs.declared.typed.Gives.{Gives}
 use Rattle.l2_types.specs.declared.typed.Gives.TheVariants.{After}
 use Rattle.l2_types.specs.declared.state.Meaning.{Meaning}
@@ -25,16 +21,10 @@ use Rattle.l2_types.specs.declared.operators.Class.{Class}
 use Rattle.l2_types.specs.declared.operators.Class.TheVariants.{Computes, Shifts, Compares, Joins}
 use Rattle.l2_types.specs.declared.operators.Assigning.{Assigning}
 use Rattle.l2_types.specs.declared.operators.Assigning.TheVariants.{Plainly, Computing, Shifting}
-use Rattle.l2_types.specs.declared.meant.Meant.{Meant}
-use Rattle.l2_types.specs.declared.meant.Meant.TheVariants as meant
-use Rattle.l2_types.specs.declared.meant.Operand.{Operand}
-use Rattle.l2_types.specs.declared.meant.Operand.TheVariants as operand
 use Rattle.l2_types.specs.Types.{type_of_scalar, promoted, common}
-use Rattle.l2_types.specs.Operators.{defined_kind, can_overflow}
-use Rattle.l2_types.specs.Trees.{TypedTree, Constant, Read, Convert, Unary, Arithmetic, Compare, Join, Conditional, Comma, Assign, Update, Discard, typed_tree}
-use Rattle.l2_types.specs.States.{State, Seen, saw, next, with_fault, with_check, with_use, check_number}
-
-use Rattle.l2_types.specs.Meant.{MeantTree, Unknown, Value, Located, OperandTree, NoValue, Of, meant_tree, operand_tree, value_of, valued, wrong, integer, same_type, converted, checked, overflow_kind, checks_of, size_of, type_of}
+use Rattle.l2_types.specs.Trees.{TypedTree, Constant, Unary, Arithmetic, Compare, Join, Conditional, Comma, Assign, Update, Discard}
+use Rattle.l2_types.specs.States.{State, Seen, saw, next, with_fault, with_use}
+use Rattle.l2_types.specs.Meant.{MeantTree, Unknown, Value, Located, OperandTree, NoValue, Of, wrong, integer, converted, checked, overflow_kind, checks_of, size_of}
 
 -- ---- names
 
@@ -162,4 +152,3 @@ abbrev pub sized : Place → Option CType → State → Seen MeantTree
 sized p None s = saw Unknown s
 sized p (Some Void) s = wrong p s
 sized p (Some (Integer a)) s = integer ULong (Constant ulong_type (pos (size_of a))) s
-

@@ -7,10 +7,13 @@ ghost use Rattle.l2_types.specs.States.{saw};
 ghost use Rattle.l2_types.specs.Meant.{meant_tree, operand_tree, converted, type_of};
 ghost use Rattle.l2_values.specs.Values.{operated, assigned_integer, assigned, unless_const, assign, stepped_integer, stepped, cast, sized};
 
-use l2_types::{Arithmetic, Assigning, CType, CheckError, Gives, Lvalue, Meant, Operand, Table, Typed, common, converted, integer, promoted, size_of, type_of_scalar};
 use crate::values::{checks_of, wrong};
 use l2_bits::Ty;
 use l2_syntax::{Place, Rule, Scalar};
+use l2_types::{
+    Arithmetic, Assigning, CType, CheckError, Gives, Lvalue, Meant, Operand, Table, Typed, common,
+    converted, integer, promoted, size_of, type_of_scalar,
+};
 use std::alloc::Global;
 
 /// `l op= y` in the type `c`, with a right operand that has been converted.
@@ -30,7 +33,11 @@ fn operated(
 {
     let ty = type_of_scalar(c);
     let checks = checks_of(table, op, ty, place)?;
-    integer(alloc, a, Typed::Update(gives, op, type_of_scalar(a), ty, checks, l, y))
+    integer(
+        alloc,
+        a,
+        Typed::Update(gives, op, type_of_scalar(a), ty, checks, l, y),
+    )
 }
 
 fn assigned_integer(
@@ -57,7 +64,17 @@ fn assigned_integer(
         }
         Assigning::Shifting(op) => {
             let value = converted(alloc, b, promoted(b), y)?;
-            operated(alloc, table, Gives::After, op, promoted(a), place, a, l, value)
+            operated(
+                alloc,
+                table,
+                Gives::After,
+                op,
+                promoted(a),
+                place,
+                a,
+                l,
+                value,
+            )
         }
     }
 }
@@ -196,12 +213,12 @@ pub fn cast(
         Some(t) => match operand {
             Operand::Unknown => Ok(Meant::Unknown),
             Operand::Of(u, x) => match t {
-                CType::Void => Ok(Meant::Value(
-                    CType::Void,
-                    Box::new(alloc, Typed::Discard(x))?,
-                )),
+                CType::Void => Ok(Meant::Value(CType::Void, Box::new(alloc, Typed::Discard(x))?)),
                 CType::Integer(a) => match u {
-                    CType::Integer(b) => Ok(Meant::Value(CType::Integer(a), converted(alloc, b, a, x)?)),
+                    CType::Integer(b) => Ok(Meant::Value(
+                        CType::Integer(a),
+                        converted(alloc, b, a, x)?,
+                    )),
                     CType::Void => wrong(table, place),
                 },
             },
@@ -221,7 +238,11 @@ pub fn sized(
     match t {
         None => Ok(Meant::Unknown),
         Some(CType::Void) => wrong(table, place),
-        Some(CType::Integer(a)) => integer(alloc, Scalar::ULong, Typed::Constant(Ty::ULONG, size_of(a))),
+        Some(CType::Integer(a)) => integer(
+            alloc,
+            Scalar::ULong,
+            Typed::Constant(Ty::ULONG, size_of(a)),
+        ),
     }
 }
 

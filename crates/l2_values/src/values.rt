@@ -5,11 +5,14 @@ ghost use Rattle.l2_types.specs.States.{saw};
 ghost use Rattle.l2_types.specs.Meant.{meant_tree, operand_tree, wrong, value_of, overflow_kind, checks_of};
 ghost use Rattle.l2_values.specs.Values.{named, computed, integers, combined, binary, negated, unary_integer, unary, chosen, conditional, comma};
 
-use l2_types::{Arithmetic, CType, CheckError, Checks, Class, Lvalue, Meaning, Meant, Negation, Operand, Table, Typed, can_overflow, common, converted, defined_kind, integer, promoted, type_of_scalar};
 use l2_bits::Ty;
 use l2_runs::Kind;
 use l2_syntax::{Place, Rule, Scalar};
 use l2_tree::UnaryOperator;
+use l2_types::{
+    Arithmetic, CType, CheckError, Checks, Class, Lvalue, Meaning, Meant, Negation, Operand, Table,
+    Typed, can_overflow, common, converted, defined_kind, integer, promoted, type_of_scalar,
+};
 use std::alloc::Global;
 
 /// `type` at the place.
@@ -38,7 +41,11 @@ pub fn named(
             table.name(object)?;
             Ok(Meant::Located(t, is_const, Lvalue::Object(object)))
         }
-        Some(Meaning::Enumerator(value)) => integer(alloc, Scalar::Int, Typed::Constant(Ty::INT, value)),
+        Some(Meaning::Enumerator(value)) => integer(
+            alloc,
+            Scalar::Int,
+            Typed::Constant(Ty::INT, value),
+        ),
         Some(Meaning::Function(_)) => wrong(table, place),
         Some(Meaning::TypeName(_)) => wrong(table, place),
         Some(Meaning::Builtin(_)) => wrong(table, place),
@@ -132,7 +139,11 @@ fn integers(
             let c = common(a, b);
             let left = converted(alloc, a, c, x)?;
             let right = converted(alloc, b, c, y)?;
-            integer(alloc, Scalar::Int, Typed::Compare(op, type_of_scalar(c), left, right))
+            integer(
+                alloc,
+                Scalar::Int,
+                Typed::Compare(op, type_of_scalar(c), left, right),
+            )
         }
         Class::Joins(op) => integer(alloc, Scalar::Int, Typed::Join(op, x, y)),
     }
@@ -219,9 +230,17 @@ fn unary_integer(
         }
         UnaryOperator::Complement => {
             let operand = converted(alloc, a, c, x)?;
-            integer(alloc, c, Typed::Unary(Negation::Complement, type_of_scalar(c), 0, operand))
+            integer(
+                alloc,
+                c,
+                Typed::Unary(Negation::Complement, type_of_scalar(c), 0, operand),
+            )
         }
-        UnaryOperator::Not => integer(alloc, Scalar::Int, Typed::Unary(Negation::Not, type_of_scalar(a), 0, x)),
+        UnaryOperator::Not => integer(
+            alloc,
+            Scalar::Int,
+            Typed::Unary(Negation::Not, type_of_scalar(a), 0, x),
+        ),
     }
 }
 
