@@ -1,2 +1,0 @@
-pub mod TypeNames
-pub mod Expressions
