@@ -116,19 +116,16 @@ module _ (cells : Layout) (f : Family) (over : (n o : ℕ) → f.object n (membe
 
 -- ---- numbers
 
+with_first : (P : ℕ → Type 0) (n : ℕ) (b : Bool) (ns : List ℕ) → P n → AllOf P ns → AllOf P (if b then n ∷ ns else ns)
+with_first P n true ns p q = (p, q)
+with_first P n false ns p q = q
+
 -- what holds of each number from n on holds of those that pass a test
 pub numbers_all : {A : Type 0} (P : ℕ → Type 0) (f : A → Bool) (n : ℕ) (xs : List A) → ((i : ℕ) → i < length xs → P (n + i)) → AllOf P (numbers_where f n xs)
 numbers_all P f n [] h = tt
-numbers_all P f n (x ∷ xs) h = go (f x) where
-  first : P n
-  first = subst P (omega arith) (h 0 (omega arith))
-
-  rest : AllOf P (numbers_where f (suc n) xs)
-  rest = numbers_all P f (suc n) xs (λ i l. let e : n + (i + 1) ≡ suc n + i = omega arith in subst P e (h (i + 1) (omega arith)))
-
-  go : (b : Bool) → AllOf P (if b then n ∷ numbers_where f (suc n) xs else numbers_where f (suc n) xs)
-  go true = (first, rest)
-  go false = rest
+numbers_all P f n (x ∷ xs) h =
+    with_first P n (f x) (numbers_where f (suc n) xs) (let e : n + 0 ≡ n = omega arith in subst P e (h 0 (omega arith)))
+    (numbers_all P f (suc n) xs (λ i l. let e : n + (i + 1) ≡ suc n + i = omega arith in subst P e (h (i + 1) (omega arith))))
 
 pub all_in : (P : ℕ → Type 0) (xs : List ℕ) (l : ℕ) → AllOf P xs → IsIn l xs → P l
 all_in P [] l h k = absurd k
