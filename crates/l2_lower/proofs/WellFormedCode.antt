@@ -25,11 +25,12 @@ use Rattle.l2_meaning.proofs.Numbers.{zero_value}
 use Rattle.l2_meaning.proofs.LoopObjects.{loop_objects}
 use Rattle.l2_code.specs.declared.code.CodeObject.{CodeObject}
 use Rattle.l2_code.specs.declared.code.CodeLoop.{CodeLoop}
+use Rattle.l2_code.specs.declared.code.Pointed.{Pointed}
 use Rattle.l2_code.specs.declared.action.Action.TheVariants.{End}
 use Rattle.l2_code.specs.Trees.{Nodes, none, more, join}
 use Rattle.l2_code.specs.Values.{Types}
 use Rattle.l2_code.specs.Modes.{object_cells, pointed_cells, types_of, first_object, first_store}
-use Rattle.l2_code.specs.WellFormed.{EndsWithEnd, AreTyped, empty_scope, Names, names_of, IsNumber, All, Rise, StartsAs, StartAs, IsObject, IsVariable, IsLoop, IsWellFormed, results, count_from}
+use Rattle.l2_code.specs.WellFormed.{EndsWithEnd, AreTyped, empty_scope, Names, names_of, IsNumber, All, Rise, StartsAs, StartAs, IsSized, IsObject, IsVariable, IsLoop, IsWellFormed, results, count_from}
 use Rattle.l2_lower.specs.Emitting.{only, Part}
 use Rattle.l2_lower.specs.Statements.{declaration, deads, statement}
 use Rattle.l2_lower.specs.Code.{code_object, code_objects, code_check, code_loop, declarations, body_code, main_code, code}
@@ -233,6 +234,10 @@ module _ (p : ProgramTree) (lawful : IsLawful p) where
           mods_rise = rising_too info.mods so.mods_rise;
         })
 
+  no_pointed : (n : ℕ) (q : Pointed) → at_number (code p).pointed n ≡ Some q → IsSized q.cells
+  no_pointed zero q e = cc
+  no_pointed (suc i) q e = cc
+
   few_objects : length (code p).objects ≤ 131070
   few_objects = let a = code_length p.names p.static_values p.objects in let b = objects_few p.objects lawful.have_cells in let c = lawful.few_cells in omega arith
 
@@ -244,9 +249,7 @@ module _ (p : ProgramTree) (lawful : IsLawful p) where
     typed = subst (λ (n : Names). AreTyped n empty_scope (code p).body) (sym names_same) code_fits.typed;
     few_objects = few_objects;
     objects = object_fits;
-    pointed = λ n q e. no_pointed n q e;
+    pointed = no_pointed;
     loops = loop_fits;
     never_stuck = λ f r mode tests choices turns. never_stuck p lawful f r mode tests choices turns;
-  } where
-    no_pointed : (n : ℕ) (q : _) → at_number [] n ≡ Some q → _
-    no_pointed = ?
+  }
