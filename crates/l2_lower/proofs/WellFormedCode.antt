@@ -1,5 +1,5 @@
 -- The code of a lawful program is well formed.
-use Rattle.std.proofs.Common.{◌≡◌, ℕ, zero, suc, ◌+◌, ◌-◌, ◌<◌, ◌≤◌, Bool, true, false, List, [], ◌∷◌, ◌++◌, length, map, take, drop, Option, Some, None, refl, sym, ap, subst, ◌∙◌, arith}
+use Rattle.std.proofs.Common.{◌≡◌, ℕ, zero, suc, ◌+◌, ◌<◌, ◌≤◌, Bool, true, false, List, [], ◌∷◌, ◌++◌, length, map, take, drop, Option, Some, None, refl, sym, ap, subst, ◌∙◌, arith}
 use Rattle.std.specs.Prelude.{slice_get, ◌==◌, if◌then◌else◌}
 use Rattle.std.specs.Prelude as std
 use Rattle.std.proofs.lemmas.List.{length-map}
@@ -8,8 +8,7 @@ use Rattle.l2_runs.specs.declared.cells.CellType.{CellType}
 use Rattle.l2_runs.specs.declared.cells.CellType.TheVariants.{Integer, Pointer}
 use Rattle.l2_runs.specs.declared.cells.CellValue.{CellValue}
 use Rattle.l2_runs.specs.declared.cells.CellValue.TheVariants.{Number, Null, Invalid, At}
-use Rattle.l2_runs.specs.Numbers.{at_number, numbers_where}
-use Rattle.l2_runs.specs.Store.{Object, or_nothing, object_at}
+use Rattle.l2_runs.specs.Numbers.{at_number}
 use Rattle.l2_runs.specs.Fits.{Layout, CellsFit}
 use Rattle.l2_program.specs.declared.program.ObjectInfo.{ObjectInfo}
 use Rattle.l2_program.specs.declared.program.LoopInfo.{LoopInfo}
@@ -19,8 +18,7 @@ use Rattle.l2_program.specs.Programs.{ProgramTree, FunctionTree}
 use Rattle.l2_meaning.specs.Rising as rising
 use Rattle.l2_meaning.specs.Changes.{is_integer}
 use Rattle.l2_meaning.specs.Execution.{cells_of, known_cells, main_among, value_in, first_cell}
-use Rattle.l2_meaning.specs.Execution as meaning
-use Rattle.l2_meaning.specs.Lawful.{Listing, IsLawful, IsStart, HoldStart, HoldObject, HoldStatics, HaveCells, cell_count, AreOfObjects}
+use Rattle.l2_meaning.specs.Lawful.{Listing, IsLawful, IsStart, HoldStart, HoldObject, HoldStatics, HaveCells, cell_count}
 use Rattle.l2_meaning.proofs.Numbers.{zero_value}
 use Rattle.l2_meaning.proofs.LoopObjects.{loop_objects}
 use Rattle.l2_code.specs.declared.code.CodeObject.{CodeObject}
@@ -29,13 +27,12 @@ use Rattle.l2_code.specs.declared.code.Pointed.{Pointed}
 use Rattle.l2_code.specs.declared.action.Action.TheVariants.{End}
 use Rattle.l2_code.specs.Trees.{Nodes, none, more, join}
 use Rattle.l2_code.specs.Values.{Types}
-use Rattle.l2_code.specs.Modes.{object_cells, pointed_cells, types_of, first_object, first_store}
-use Rattle.l2_code.specs.WellFormed.{EndsWithEnd, AreTyped, empty_scope, Names, names_of, IsNumber, All, Rise, StartsAs, StartAs, IsSized, IsObject, IsVariable, IsLoop, IsWellFormed, results, count_from}
-use Rattle.l2_lower.specs.Emitting.{only, Part}
+use Rattle.l2_code.specs.Modes.{object_cells, pointed_cells, types_of}
+use Rattle.l2_code.specs.WellFormed.{EndsWithEnd, AreTyped, empty_scope, Names, names_of, IsNumber, All, Rise, StartsAs, StartAs, IsSized, IsObject, IsVariable, IsLoop, IsWellFormed, results}
+use Rattle.l2_lower.specs.Emitting.{only}
 use Rattle.l2_lower.specs.Statements.{declaration, deads, statement}
 use Rattle.l2_lower.specs.Code.{code_object, code_objects, code_check, code_loop, declarations, body_code, main_code, code}
 use Rattle.l2_lower.proofs.ProgramRuns.{program_types}
-use Rattle.l2_lower.proofs.Executions.{start_same}
 use Rattle.l2_lower.proofs.MainCode.{few_cells}
 use Rattle.l2_lower.proofs.NeverStuck.{numbers_all, never_stuck}
 use Rattle.l2_lower.proofs.Typing.{all_behind, from_counted, Sound, join_sound, none_sound}

@@ -49,11 +49,10 @@ fn assembled(alloc: Global, p: &Program, temps: u32, items: Vec<Item>) -> Result
     })
 }
 
-/// The code of a program.
-pub fn lower(alloc: Global, program: &Program) -> Result<Code, LowerError>
+/// The code of a program, by its definition.
+fn lowered(alloc: Global, program: &Program) -> Result<Code, LowerError>
     requires { IsLawful (program_tree program.now) }
     ensures ok { IfOk result (λ c. code_of c ≡ code (program_tree program.now)) }
-    ensures well_formed { IfOk result (λ c. IsWellFormed (code_of c)) }
     ensures few { IfOk result (λ c. instructions (code (program_tree program.now)).body ≤ most_instructions) }
     ensures too_large { IfErr result (λ e. e ≢ NoMemory → most_instructions < instructions (code (program_tree program.now)).body) }
 {
@@ -62,4 +61,15 @@ pub fn lower(alloc: Global, program: &Program) -> Result<Code, LowerError>
     program_code(alloc, program, &mut items, &mut at)?;
     let code = assembled(alloc, program, at.temps(), items)?;
     Ok(code)
+}
+
+/// The code of a program.
+pub fn lower(alloc: Global, program: &Program) -> Result<Code, LowerError>
+    requires { IsLawful (program_tree program.now) }
+    ensures ok { IfOk result (λ c. code_of c ≡ code (program_tree program.now)) }
+    ensures well_formed { IfOk result (λ c. IsWellFormed (code_of c)) }
+    ensures few { IfOk result (λ c. instructions (code (program_tree program.now)).body ≤ most_instructions) }
+    ensures too_large { IfErr result (λ e. e ≢ NoMemory → most_instructions < instructions (code (program_tree program.now)).body) }
+{
+    lowered(alloc, program)
 }
