@@ -62,7 +62,7 @@ turns_count p lawful sets closed zero some q none passes choices turns l row h =
 turns_count p lawful sets closed (suc k) some q none passes choices turns l row h = fails p lawful sets closed k q (only_watched q passes) choices turns l row none h
 
 module _ (p : ProgramTree) (limit : Limit) where
-  agreeing : (Watched : ℕ → ℕ → Type 0) (more fewer : Tests) → TestsAgree Watched more fewer → (cs : List ℤ) (t : ℕ) → Alike Watched true (run_program p limit more (start p cs t)) (run_program p limit fewer (start p cs t))
+  pub agreeing : (Watched : ℕ → ℕ → Type 0) (more fewer : Tests) → TestsAgree Watched more fewer → (cs : List ℤ) (t : ℕ) → Alike Watched true (run_program p limit more (start p cs t)) (run_program p limit fewer (start p cs t))
   agreeing Watched more fewer agree cs t =
       (main_agrees Watched more fewer agree limit true (cells_of p) (calls_of p limit more (length p.functions)) (calls_of p limit fewer (length p.functions)) (main_among p.names p.functions)).by (start p cs t)
 
@@ -152,7 +152,7 @@ module _ (p : ProgramTree) (sets : ℕ → Member → Bool) (k : ℕ) (a b c : L
       (main_meets k (back (cells_of p) sets (mods_of p) (starts a)) (back (cells_of p) sets (mods_of p) (starts b)) (back (cells_of p) sets (mods_of p) (starts c)) ta tb tc back_meets counted uncounted true (cells_of p)
       (calls_of p (cut_limit p sets k a) ta (length p.functions)) (calls_of p (cut_limit p sets k b) tb (length p.functions)) (calls_of p (cut_limit p sets k c) tc (length p.functions)) (main_among p.names p.functions)).by (start p cs 0)
 
-  none_fall : ((cs : List ℤ) → ¬ IsFallen (cut_end p sets k b tb cs)) → ((cs : List ℤ) → ¬ IsFallen (cut_end p sets k c tc cs)) → (cs : List ℤ) → ¬ IsFallen (cut_end p sets k a ta cs)
+  pub none_fall : ((cs : List ℤ) → ¬ IsFallen (cut_end p sets k b tb cs)) → ((cs : List ℤ) → ¬ IsFallen (cut_end p sets k c tc cs)) → (cs : List ℤ) → ¬ IsFallen (cut_end p sets k a ta cs)
   none_fall first second cs h =
       let w = fell cs 0 (run_program p (cut_limit p sets k a) ta (start p cs 0)) h in
       elim (meets_fall (run_program p (cut_limit p sets k a) ta (start p cs 0)) (run_program p (cut_limit p sets k b) tb (start p cs 0)) (run_program p (cut_limit p sets k c) tc (start p cs 0)) w.0 w.1 (runs_meet cs) w.2) [

@@ -2,6 +2,7 @@
 use Rattle.std.specs.Prelude.{◌≡◌, ℕ, ◌+◌, ◌==◌, Bool, true, false, if◌then◌else◌, ℤ, List, [], ◌∷◌, ◌++◌, length, map, Option, Some, None}
 use Rattle.std.specs.List.{Contains}
 use Rattle.l2_runs.specs.declared.member.Member.{Member}
+use Rattle.l2_runs.specs.Numbers.{at_number}
 use Rattle.l2_runs.specs.Store.{Store}
 use Rattle.l2_runs.specs.Runs.{Fallen}
 use Rattle.l2_runs.specs.Loops.{Test, Tests}
@@ -13,6 +14,8 @@ use Rattle.l2_templates.specs.declared.point.LoopPoint.{LoopPoint}
 use Rattle.l2_templates.specs.declared.point.LoopPoint.TheVariants.{Bottom, Rows}
 use Rattle.l2_templates.specs.Domains.{row_list}
 use Rattle.l2_templates.specs.Points.{IsStronger}
+use Rattle.l2_templates.specs.Forms.{row_holds}
+use Rattle.l2_cuts.specs.Points.{values_of}
 use Rattle.l2_cuts.specs.Cuts.{rows_at, cut_end, Infers}
 
 -- ---- points of a domain
@@ -59,3 +62,14 @@ before_rows q l passes false m = rows_at q m
 -- some cut run comes to the end of a turn of the loop, one that counts, where this doesn't hold; the rows of this end aren't asked
 abbrev pub Reaches : ProgramTree → (ℕ → Member → Bool) → ℕ → List LoopPoint → ℕ → (Store → Bool) → Type 0
 Reaches p sets k q l passes = (choices : List ℤ) × (cut_end p sets k q (before_rows q l passes) choices ≡ Fallen l (length (rows_at q l) + 1))
+
+-- ---- rows
+
+abbrev pub passes_row : Option Row → Store → Bool
+passes_row None store = false
+passes_row (Some row) store = row_holds row (values_of store)
+
+-- whether the row of this number holds; at Bottom none does
+abbrev pub row_passes : LoopPoint → ℕ → Store → Bool
+row_passes Bottom row store = false
+row_passes (Rows rows) row store = passes_row (at_number rows row) store

@@ -1,9 +1,9 @@
 -- Where a cut run under stronger tests goes, one under weaker tests goes alike; where it falls at a watched row, the other falls too.
-use Rattle.std.proofs.Common.{◌≡◌, ℕ, zero, suc, pos, Bool, true, false, List, Option, Some, None, refl, sym, subst}
+use Rattle.std.proofs.Common.{◌≡◌, ℕ, zero, suc, pos, Bool, true, false, Option, Some, None, refl, sym, subst}
 use Rattle.std.specs.Ordering.{int_eq}
 use Rattle.l2_runs.specs.declared.outcome.Outcome.TheVariants.{Stopped}
 use Rattle.l2_runs.specs.Store.{Store}
-use Rattle.l2_runs.specs.Runs.{State, End, Over, Fallen, Result, Go, Halt, Run, on_go, and_then, done, stop, either, choose}
+use Rattle.l2_runs.specs.Runs.{State, Over, Fallen, Result, Go, Halt, Run, on_go, and_then, done, stop, either, choose}
 use Rattle.l2_runs.specs.Loops.{Cut, Tests, Turn, events, or_events, tested, or_next, or_stop, rounds, later_copies, loop_of}
 use Rattle.l2_run_laws.proofs.Meeting.{HasFallen}
 

@@ -168,11 +168,11 @@ module _ (m : Meaning) (s : Names) (g : Setting) where
   true_false c (e ∷ es) fs (inl h) k = inl (h.0, h.1, false_both es fs h.2 k)
   true_false c (e ∷ es) fs (inr h) k = inr (h.0, true_false c es fs h.1 k)
 
-  false_if : (b : Bool) (k : End) (es fs : List Event) → AllFalse es → OneIf b k fs → OneIf b k (es ++ fs)
+  pub false_if : (b : Bool) (k : End) (es fs : List Event) → AllFalse es → OneIf b k fs → OneIf b k (es ++ fs)
   false_if true c es fs h k = false_true c es fs h k
   false_if false c es fs h k = false_both es fs h k
 
-  if_false : (b : Bool) (k : End) (es fs : List Event) → OneIf b k es → AllFalse fs → OneIf b k (es ++ fs)
+  pub if_false : (b : Bool) (k : End) (es fs : List Event) → OneIf b k es → AllFalse fs → OneIf b k (es ++ fs)
   if_false true c es fs h k = true_false c es fs h k
   if_false false c es fs h k = false_both es fs h k
 
