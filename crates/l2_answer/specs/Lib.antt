@@ -1,5 +1,5 @@
 pub mod Answers
 pub mod Printed
-pub mod Programs
 pub mod Replays
 pub mod Statuses
+pub mod Texts

@@ -3,9 +3,9 @@ use Rattle.l2_lex.specs.Code.{lexed_of}
 use Rattle.l2_tree.specs.Units.{unit_tree}
 use Rattle.l2_parse_unit.specs.Reading.{IsRefused, OnRefusal}
 use Rattle.l2_syntax.specs.declared.refusal.TextFault.{TextFault}
-use Rattle.l2_answer.specs.Programs.{IsNoProgram, IsRefusalOf}
-use Rattle.l2_answer.proofs.Texts.{is_not_built, is_unread}
-use Rattle.l2_answer.proofs.program.program_of.Goals as goal
+use Rattle.l2_front.specs.Programs.{IsNoProgram, IsRefusalOf}
+use Rattle.l2_front.proofs.Texts.{is_not_built, is_unread}
+use Rattle.l2_front.proofs.program.program_of.Goals as goal
 
 pub returns-in-Err-NotSmall-clause-refused : goal.returns-in-Err-NotSmall-clause-refused
 returns-in-Err-NotSmall-clause-refused c =

@@ -4,7 +4,7 @@ ghost use Rattle.l2_program.specs.Programs.{program_tree};
 ghost use Rattle.l2_meaning.specs.Lawful.{IsLawful};
 ghost use Rattle.l2_tree.specs.Units.{unit_tree};
 ghost use Rattle.l2_parse_unit.specs.Reading.{OnRefusal};
-ghost use Rattle.l2_answer.specs.Programs.{IsProgram, IsNoProgram, IsRefusalOf, small_program};
+ghost use Rattle.l2_front.specs.Programs.{IsProgram, IsNoProgram, IsRefusalOf, small_program};
 
 use l2_lex::tokens;
 use l2_parse_unit::{parse, refused_law, unique_unit_law};
