@@ -37,11 +37,7 @@ fn replayed(alloc: Global, program: &Program, values: &[u8]) -> Result<Answer, A
 {
     match read_values(alloc, values) {
         Ok(read) => executed(alloc, program, &read),
-        Err(ValuesError::BadLine { .. }) => fixed(
-            alloc,
-            Status::FileRefused,
-            "VALUES BadLine 0\n",
-        ),
+        Err(ValuesError::BadLine { .. }) => fixed(alloc, Status::FileRefused, "VALUES BadLine 0\n"),
         Err(ValuesError::NoMemory) => Err(AllocError),
     }
 }

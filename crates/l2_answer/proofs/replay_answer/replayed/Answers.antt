@@ -1,7 +1,6 @@
-use Rattle.std.proofs.Common.{◌≡◌, refl}
+use Rattle.std.proofs.Common.{◌≡◌}
 use Rattle.l2_program.specs.Programs.{program_tree}
-use Rattle.l2_answer.specs.Replays.{values_refused}
-use Rattle.l2_answer.proofs.Executions.{executes}
+use Rattle.l2_answer.proofs.Executions.{executes, no_values}
 use Rattle.l2_answer.proofs.replay_answer.replayed.Goals as goal
 
 pub returns-in-Ok : goal.returns-in-Ok
@@ -10,4 +9,7 @@ returns-in-Ok c =
     c.in-Ok.ensures.ok.0 c.in-Ok.ensures.ok.1 c.executed.result c.executed.ensures
 
 pub returns-in-Err-BadLine : goal.returns-in-Err-BadLine
-returns-in-Err-BadLine c = ?
+returns-in-Err-BadLine c =
+    no_values c.args.values.now (program_tree c.args.program.now)
+    (λ turns choices range spelt. let no = c.in-Err-BadLine.ensures.exactly turns choices range spelt in let bad = c.in-Err-BadLine.field-0-is in cc)
+    c.fixed.result c.fixed.ensures
