@@ -1,5 +1,5 @@
 -- Answers about a text, by its program or by its fault.
-use Rattle.std.proofs.Common.{◌≡◌, ℕ, List, Result, Ok, Err, IfOk}
+use Rattle.std.proofs.Common.{ℕ, List, Result, Ok, Err, IfOk}
 use Rattle.l2_syntax.specs.declared.refusal.TextFault.{TextFault}
 use Rattle.l2_syntax.specs.declared.refusal.TextFault.TheVariants as fault
 use Rattle.l2_program.specs.Programs.{ProgramTree}

@@ -1,10 +1,10 @@
 -- Texts that are no program.
-use Rattle.std.proofs.Common.{◌≡◌, ℕ, List, Some, None, sym, ap, ◌∙◌, subst}
+use Rattle.std.proofs.Common.{◌≡◌, ℕ, List, None, ap, ◌∙◌, subst}
 use Rattle.l2_syntax.specs.declared.refusal.Refusal.{Refusal}
 use Rattle.l2_lex.specs.Lexing.{Lexed, tokens_of}
 use Rattle.l2_tree.specs.Trees.{UnitTree}
 use Rattle.l2_parse_unit.specs.Reading.{Spells, SpellsText, IsRefused, IsTextRefused, UniqueUnitLaw, RefusedLaw}
-use Rattle.l2_front.specs.Programs.{small_program, IsProgram, IsNoProgram, IsRefusalOf, not_built, unread, not_built_yet}
+use Rattle.l2_front.specs.Programs.{small_program, IsNoProgram, IsRefusalOf, not_built, unread, not_built_yet}
 
 -- the one unit that the text spells has no program
 pub no_program : (text : List ℕ) (u : UnitTree) → UniqueUnitLaw → SpellsText text u → small_program u ≡ None → IsNoProgram text

@@ -1,4 +1,3 @@
-use Rattle.std.proofs.Common.{◌≡◌}
 use Rattle.l2_program.specs.Programs.{program_tree}
 use Rattle.l2_answer.proofs.Executions.{executes, no_values}
 use Rattle.l2_answer.proofs.replay_answer.replayed.Goals as goal

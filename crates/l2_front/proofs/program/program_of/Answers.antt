@@ -1,8 +1,7 @@
-use Rattle.std.proofs.Common.{◌≡◌, Err, ap, subst, sym}
+use Rattle.std.proofs.Common.{Err, ap, subst, sym}
 use Rattle.l2_lex.specs.Code.{lexed_of}
 use Rattle.l2_tree.specs.Units.{unit_tree}
 use Rattle.l2_parse_unit.specs.Reading.{IsRefused, OnRefusal}
-use Rattle.l2_syntax.specs.declared.refusal.TextFault.{TextFault}
 use Rattle.l2_front.specs.Programs.{IsNoProgram, IsRefusalOf}
 use Rattle.l2_front.proofs.Texts.{is_not_built, is_unread}
 use Rattle.l2_front.proofs.program.program_of.Goals as goal
