@@ -1,0 +1,2 @@
+pub mod CutRuns
+pub mod Weights

@@ -1,0 +1,4 @@
+pub mod Flat
+pub mod Runs
+pub mod Law
+pub mod Refused
