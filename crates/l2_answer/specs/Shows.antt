@@ -3,6 +3,7 @@ use Rattle.std.specs.Prelude.{◌≡◌, ℕ, ◌<◌, ◌≤◌, List, codes}
 use Rattle.l2_program.specs.Programs.{ProgramTree}
 use Rattle.l2_code.specs.Trees.{CodeTree}
 use Rattle.l2_code.specs.Sizes.{instructions}
+use Rattle.l2_lower.specs.Output.{most_instructions}
 use Rattle.l2_lower.specs.Code.{code}
 use Rattle.l2_listing.specs.Texts.{listing}
 use Rattle.l2_show.specs.Loops.{loops_text}
@@ -11,10 +12,6 @@ use Rattle.l2_request.specs.declared.request.View.TheVariants.{Goto, Loops}
 use Rattle.l2_answer.specs.declared.status.Status.{Status}
 use Rattle.l2_answer.specs.declared.status.Status.TheVariants.{Fine, Unknown}
 use Rattle.l2_answer.specs.Texts.{OfText}
-
--- how many instructions a code may have
-abbrev pub most_instructions : ℕ
-most_instructions = 65536
 
 -- the listing of a code, but where it is too large
 pub data ListsCode (c : CodeTree) (status : Status) (output : List ℕ) : Type 0 where
