@@ -1,0 +1,8 @@
+//! The bounds that rows of an invariant may take: numbers near the constants of a text.
+#![tactic(auto)]
+
+mod bounds;
+mod constants;
+mod near;
+
+pub use bounds::thresholds;
