@@ -174,9 +174,12 @@ is_not_invalid Null = true
 is_not_invalid (At o f) = true
 is_not_invalid x = false
 
-abbrev pub is_live : Store → CellValue → Bool
-is_live store (At o f) = (object_at store o).live
-is_live store x = false
+-- no pointer into an object that is dead
+abbrev pub is_not_dead : Store → CellValue → Bool
+is_not_dead store (At o f) = (object_at store o).live
+is_not_dead store Null = true
+is_not_dead store Invalid = true
+is_not_dead store (Number z) = false
 
 -- cells of these types stand at the pointer
 abbrev pub has_cells : Layout → List CellType → CellValue → Bool
@@ -196,7 +199,7 @@ passes types store t (test.Index n a) = is_number (is_below (pos n)) (operand_va
 passes types store t (test.IndexEnd n a) = is_number (is_below (pos n +ℤ pos 1)) (operand_value t a)
 passes types store t (test.Null a) = is_not_null (operand_value t a)
 passes types store t (test.Invalid a) = is_not_invalid (operand_value t a)
-passes types store t (test.Live a) = is_live store (operand_value t a)
+passes types store t (test.Live a) = is_not_dead store (operand_value t a)
 passes types store t (test.Cells x a) = has_cells types.objects (types.pointed x) (operand_value t a)
 passes types store t (test.Move by a b) = is_some (moved types.objects by (operand_value t a) (operand_value t b))
 passes types store t (test.Same a b) = same_object (operand_value t a) (operand_value t b)

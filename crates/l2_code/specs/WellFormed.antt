@@ -146,6 +146,19 @@ abbrev pub IsInteger : Scope → Operand → Type 0
 IsInteger scope (Constant v) = IsWhole v
 IsInteger scope (Temp n) = IsKnownInteger (scope n)
 
+abbrev pub IsPromotedType : CellType → Type 0
+IsPromotedType (Integer ty) = 32 ≤ ty.width
+IsPromotedType Pointer = ⊥
+
+abbrev pub IsKnownPromoted : Option Known → Type 0
+IsKnownPromoted None = ⊥
+IsKnownPromoted (Some k) = IsPromotedType k.type
+
+-- an operand of an integer type of at least 32 bits, as amounts of shifts and indexes are
+abbrev pub IsPromoted : Scope → Operand → Type 0
+IsPromoted scope (Constant v) = IsWhole v
+IsPromoted scope (Temp n) = IsKnownPromoted (scope n)
+
 abbrev pub IsBit : CellValue → Type 0
 IsBit (Number z) = (z ≡ pos 0) ⊎ (z ≡ pos 1)
 IsBit v = ⊥
@@ -167,7 +180,7 @@ is_comparison Le = true
 is_comparison op = false
 
 abbrev pub IsAmount : Bool → Layout → Scope → Ty → Operand → Type 0
-IsAmount true cells scope ty b = IsInteger scope b
+IsAmount true cells scope ty b = IsPromoted scope b
 IsAmount false cells scope ty b = IsOperand cells scope (Integer ty) b
 
 abbrev pub is_shift : Operator → Bool
@@ -187,13 +200,13 @@ IsFactor by = (negsuc 65535 ≤ℤ by) × (by ≤ℤ pos 65536)
 abbrev pub IsLength : ℕ → Type 0
 IsLength n = (1 ≤ n) × (n ≤ 65536)
 
--- the operands of a test; the right operand of a shift is of any integer type
+-- the operands of a test; an amount of a shift and an index are of any promoted type
 abbrev pub IsTypedTest : Names → Scope → Test → Type 0
 IsTypedTest names scope (test.Division ty a b) = IsOperand names.objects scope (Integer ty) a × IsOperand names.objects scope (Integer ty) b
-IsTypedTest names scope (test.Shift ty b) = IsInteger scope b
+IsTypedTest names scope (test.Shift ty b) = IsPromoted scope b
 IsTypedTest names scope (test.Overflow op ty a b) = IsOperand names.objects scope (Integer ty) a × IsAmount (is_left_shift op) names.objects scope ty b × (ty.signed ≡ true)
-IsTypedTest names scope (test.Index n a) = IsLength n × IsInteger scope a
-IsTypedTest names scope (test.IndexEnd n a) = IsLength n × IsInteger scope a
+IsTypedTest names scope (test.Index n a) = IsLength n × IsPromoted scope a
+IsTypedTest names scope (test.IndexEnd n a) = IsLength n × IsPromoted scope a
 IsTypedTest names scope (test.Null a) = IsOperand names.objects scope Pointer a
 IsTypedTest names scope (test.Invalid a) = IsOperand names.objects scope Pointer a
 IsTypedTest names scope (test.Live a) = IsOperand names.objects scope Pointer a

@@ -1,8 +1,6 @@
-//! From a text to its program and its code.
+//! From a text to its program.
 #![tactic(auto)]
 
-mod loading;
 mod program;
 
-pub use loading::{Loaded, load};
 pub use program::program_of;

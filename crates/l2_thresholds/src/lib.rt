@@ -3,6 +3,8 @@
 
 mod bounds;
 mod constants;
+mod laws;
 mod near;
 
 pub use bounds::thresholds;
+pub use laws::thresholds_rise;

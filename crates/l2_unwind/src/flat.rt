@@ -1,9 +1,7 @@
-ghost use Rattle.std.specs.Prelude.{◌≡◌, ◌≤◌, ◌<◌, IfOk, IfErr, ◌≢◌, length};
+ghost use Rattle.std.specs.Prelude.{◌≡◌, ◌≢◌, ◌≤◌, IfOk, IfErr};
 ghost use Rattle.l2_code.specs.Trees.{code_of};
-ghost use Rattle.l2_code.specs.Sets.{IsResolved, AreSetsOf, family};
+ghost use Rattle.l2_code.specs.Sets.{AllRise, family};
 ghost use Rattle.l2_code.specs.Sizes.{size};
-ghost use Rattle.l2_code.specs.WellFormed.{IsWellFormed};
-ghost use Rattle.l2_size.specs.Capped.{capped};
 ghost use Rattle.l2_unwind.specs.Refused.{most_weight, IsTooLarge};
 
 use l2_code::{Code, Sets};
@@ -12,6 +10,7 @@ use thiserror::Error;
 
 /// Code with its sets whose loops are unwound: each turn stands in `copies` copies, and each loop has so many rows. It is seen as
 /// the code in which a loop holds its copies; a copy is looked at as often as it stands there, and isn't kept more than once.
+#[derive(Clone, Copy)]
 pub struct Flat<'a> {
     pub code: &'a Code,
     pub sets: &'a Sets,
@@ -50,11 +49,7 @@ pub fn unwind<'a>(
     copies: u32,
     rows: &'a [u32],
 ) -> Result<Flat<'a>, UnwindError>
-    requires formed { IsWellFormed (code_of code.now) }
-    requires sets { AreSetsOf (code_of code.now) sets.now }
-    requires resolved { IsResolved (code_of code.now) (family sets.now) }
-    requires some { 1 ≤ copies }
-    requires rows { length rows.now ≡ length code.now.loops }
+    requires { AllRise sets.now.sets }
     ensures kept { IfOk result (λ f. (f.code.now ≡ code.now) × (f.sets.now ≡ sets.now) × (f.copies ≡ copies) × (f.rows.now ≡ rows.now)) }
     ensures small { IfOk result (λ f. size (code_of code.now) (family sets.now) copies rows.now ≤ most_weight) }
     ensures too_large { IfErr result (λ e. e ≢ UnwindError.NoMemory → IsTooLarge (size (code_of code.now) (family sets.now) copies rows.now) e) }

@@ -1,0 +1,10 @@
+//! Words as circuits: lists of literals, bit 0 first.
+#![tactic(auto)]
+
+mod columns;
+mod literals;
+mod words;
+
+pub use columns::{Kind, Total};
+pub use literals::{constant, extended, resized, truth_word};
+pub use words::{ands, choose, convert, eq, less, less_equal, lts, ltu, ors, sub, sum, xors};

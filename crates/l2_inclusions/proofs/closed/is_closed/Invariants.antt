@@ -1,0 +1,11 @@
+use Rattle.std.proofs.Common.{take}
+use Rattle.l2_inclusions.specs.Inclusions.{IsClosed}
+use Rattle.l2_inclusions.specs.Rows.{set_at}
+use Rattle.l2_inclusions.specs.Closing.{AreParts}
+use Rattle.l2_inclusions.proofs.closed.is_closed.Given as goal
+
+abbrev pub invariant-loop-inclusion : goal.invariant-loop-inclusion
+invariant-loop-inclusion l = record {
+  pairs : AreParts l.rows l.pairs.items;
+  closed : IsClosed (set_at l.rows) (take l.inclusion-index l.inclusions);
+}

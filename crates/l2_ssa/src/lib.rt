@@ -1,0 +1,2 @@
+//! Code as equations on names, whose solutions are its cut runs.
+#![tactic(auto)]
