@@ -1,0 +1,14 @@
+pub mod Matches
+pub mod MatchLoops
+pub mod Joins
+pub mod Computing
+pub mod Converted
+pub mod ExpressionRuns
+pub mod StatementRuns
+pub mod ProgramRuns
+pub mod Executions
+pub mod Outputs
+pub mod Weights
+pub mod OperandTypes
+pub mod Lists
+pub mod MainCode
