@@ -1,6 +1,5 @@
 -- The statuses of answers.
-use Rattle.std.proofs.Common.{◌≡◌, ◌≢◌, ℕ, List, [], ◌∷◌, Option, refl}
-use Rattle.l2_outside.specs.Outside.{Files}
+use Rattle.std.proofs.Common.{◌≡◌, ◌≢◌, ℕ, List, [], ◌∷◌}
 use Rattle.l2_runs.specs.declared.outcome.Outcome.{Outcome}
 use Rattle.l2_runs.specs.declared.outcome.Outcome.TheVariants.{Ended, Stopped, Broken, OutOfChoices, OutOfTurns}
 use Rattle.l2_code.specs.Trees.{CodeTree}
@@ -9,13 +8,13 @@ use Rattle.l2_request.specs.declared.request.View.{View}
 use Rattle.l2_request.specs.declared.request.View.TheVariants.{Goto, Loops}
 use Rattle.l2_request.specs.Requests.{Request, Replay, Show}
 use Rattle.l2_answer.specs.declared.status.Status.{Status}
-use Rattle.l2_answer.specs.declared.status.Status.TheVariants.{Fine, Usage, ReadFault, WriteFault, NoMemory, Refused, FileRefused, TooLong, Short, Unsafe}
+use Rattle.l2_answer.specs.declared.status.Status.TheVariants.{WriteFault, NoMemory}
 use Rattle.l2_answer.specs.Statuses.{status_of}
 use Rattle.l2_program.specs.Programs.{ProgramTree}
 use Rattle.l2_answer.specs.Texts.{OfText, taken, refused}
 use Rattle.l2_answer.specs.Replays.{ReplaysOn, executed, values_refused}
 use Rattle.l2_answer.specs.Shows.{ListsCode, listed, too_large, ShowsProgram}
-use Rattle.l2_answer.specs.Answers.{Judges, Answers, no_command, unreadable, over_limit, judged, StatusLaw}
+use Rattle.l2_answer.specs.Answers.{Judges, no_command, unreadable, over_limit, judged, StatusLaw}
 
 abbrev IsAnswered : Status → Type 0
 IsAnswered s = (s ≢ WriteFault) × (s ≢ NoMemory)

@@ -69,7 +69,12 @@ pub fn commands(rt: &HostRuntime, alloc: Global) -> bool {
         && said(rt, alloc, &["show", "dot", "a.c"], &[])
         && said(rt, alloc, &["show", "Goto", "a.c"], &[])
         && said(rt, alloc, &["show", "goto", "a.c", "a.c"], &[])
-        && said(rt, alloc, &["show", "loops", "a.c", "--signed-overflow-check"], &[])
+        && said(
+            rt,
+            alloc,
+            &["show", "loops", "a.c", "--signed-overflow-check"],
+            &[],
+        )
         && said(rt, alloc, &["goto", "a.c"], &[])
         && said(rt, alloc, &["show", "--", "loops", "a.c"], &[])
         && said(rt, alloc, &["show", "loops", "missing"], &[])

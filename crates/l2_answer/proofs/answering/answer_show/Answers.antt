@@ -1,4 +1,4 @@
-use Rattle.std.proofs.Common.{◌≡◌, Err, ap, [], ◌∷◌}
+use Rattle.std.proofs.Common.{Err, ap, [], ◌∷◌}
 use Rattle.l2_inputs.specs.Inputs.{input_of}
 use Rattle.l2_request.specs.Requests.{Show}
 use Rattle.l2_answer.proofs.Requests.{show_inputs, judged_show, unread}
