@@ -13,10 +13,10 @@ use Rattle.l2_supply.specs.Going.{stops, seen, next_with, stop_with, tested_with
 use Rattle.l2_ssa.specs.Steps.{Step, Names, on, Meaning, Solves}
 use Rattle.l2_ssa.specs.Walks as walks
 use Rattle.l2_ssa.specs.Walks.{Setting, Slot, Walk, Frame, Last, Early, Given, pair, nothing, Kind, past, joined, is_last, copy_frame, count_steps, count_name, behind, walk_copies, end_turn, with_path}
-use Rattle.l2_ssa.specs.Law.{tests_of, tests}
+use Rattle.l2_ssa.specs.Law.{Matches, tests_of, tests}
 use Rattle.l2_ssa.proofs.Shows.{Spot, Off, At, Start, Nowhere, Standing, Stands, Begins, Shows, Stops, Follows, joined_shows, joined_stops, solves_first, solves_second}
 use Rattle.l2_ssa.proofs.Labels.{bit_on}
-use Rattle.l2_ssa.proofs.Frames.{Matches, outs_of, let_out, allow, NotStuck}
+use Rattle.l2_ssa.proofs.Frames.{outs_of, let_out, allow, NotStuck}
 use Rattle.l2_ssa.proofs.Turns.{Closes, turn_close, turn_off}
 
 -- ---- both ways of copies in one

@@ -16,15 +16,6 @@ use Rattle.l2_ssa.specs.Walks.{Frame, Block, Last, Early, Given, nothing, enteri
 use Rattle.l2_ssa.proofs.Labels.{bit_on}
 
 module _ (s : Names) where
-  -- the names are those that a supply gives
-  abbrev pub Matches : Given → Supply → Type 0
-  Matches nothing u = Unit {0}
-  Matches entering u = int_eq (number_of u) (pos 0) ≡ true
-  Matches (chosen n) u = s n ≡ bit (not (int_eq (number_of u) (pos 0)))
-  Matches (taken n ty) u = s n ≡ Number (wrap ty (number_of u))
-  Matches (half n) u = s n ≡ Number (number_of u)
-  Matches (pair x y) u = Matches x (left u) × Matches y (right u)
-
   -- whether a jump to this depth is let out of the copies round it
   abbrev pub outs_of : List Frame → ℕ → Bool
   outs_of [] n = true

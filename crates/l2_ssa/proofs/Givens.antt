@@ -14,11 +14,11 @@ use Rattle.l2_code.specs.Trees.{Node, Do, Block, Loop, Nodes, none, more}
 use Rattle.l2_code.specs.Values.{is_true}
 use Rattle.l2_supply.specs.Supply.{Supply, nil, one, two}
 use Rattle.l2_ssa.specs.Steps.{Names, on, bit, number_in, Meaning, Solves}
+use Rattle.l2_ssa.specs.Law.{Matches}
 use Rattle.l2_ssa.specs.Walks as walks
 use Rattle.l2_ssa.specs.Walks.{Setting, Walk, Frame, Given, nothing, entering, chosen, taken, half, pair, Kind, Bottom, Plain, Rows, past, is_last, copy_frame, count_steps, count_name, scatter_one, scatter_cells, scatter, head_rows, end_turn, walk_copies, walk_loop, walk_action, walk_node, walk}
 use Rattle.l2_ssa.proofs.Shows.{solves_first, solves_second}
 use Rattle.l2_ssa.proofs.Labels.{bit_on}
-use Rattle.l2_ssa.proofs.Frames.{Matches}
 
 module _ (s : Names) where
   -- the names that choices give are choices

@@ -19,11 +19,10 @@ use Rattle.l2_supply.specs.Going.{any_with, cells_with, scatter_with}
 use Rattle.l2_ssa.specs.Steps.{Row, Names, on, bit, Meaning, Holds, Solves, is_among, number_in, values_of}
 use Rattle.l2_ssa.specs.Walks as walks
 use Rattle.l2_ssa.specs.Walks.{Setting, Slot, Walk, past, joined, goes_on, with_cell, with_path, scatter_one, scatter_cells, scatter, head_rows, vars_now}
-use Rattle.l2_ssa.specs.Law.{first_cells, row_holds, rows_hold}
+use Rattle.l2_ssa.specs.Law.{Matches, first_cells, row_holds, rows_hold}
 use Rattle.l2_ssa.proofs.Shows.{Spot, Off, At, SlotsRead, Stands, solves_first, solves_second}
 use Rattle.l2_ssa.proofs.Labels.{bit_on}
 use Rattle.l2_ssa.proofs.Slots.{cell_reads, cell_writes, cell_stays, sized_cell}
-use Rattle.l2_ssa.proofs.Frames.{Matches}
 
 abbrev pub spot_if : Bool → Store → Spot
 spot_if true st = At st

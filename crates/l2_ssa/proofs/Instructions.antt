@@ -27,6 +27,7 @@ use Rattle.l2_supply.specs.Supply.{Supply, number_of, Place, at, Come, Goes, End
 use Rattle.l2_supply.specs.Going as going
 use Rattle.l2_supply.specs.Going.{Heads, act_with}
 use Rattle.l2_ssa.specs.Steps.{Step, Both, But, Names, on, bit, Solves}
+use Rattle.l2_ssa.specs.Law.{Matches}
 use Rattle.l2_ssa.specs.Walks as walks
 use Rattle.l2_ssa.specs.Walks.{Setting, Walk, Frame, Given, nothing, CheckGoal, past, stepped, goes_on, now, read_at, write_at, write_steps, candidates, zero_of, leave_steps, leave_path, on_unless, on_goto, on_check, walk_action, with_path, with_live, with_cell, compute_step}
 use Rattle.l2_ssa.proofs.Shows.{Spot, Off, At, Start, Standing, SlotsRead, Stands, TempsShow, Begins, OneIf, Shows, Stops, solves_first, solves_second}
@@ -34,7 +35,7 @@ use Rattle.l2_ssa.proofs.Labels.{bit_on}
 use Rattle.l2_ssa.proofs.Slots.{cell_reads, cell_writes, live_writes, sized_cell, sized_live}
 use Rattle.l2_ssa.proofs.Acts.{meaning, names, Held, operand_now, step_value}
 use Rattle.l2_ssa.proofs.Reaches.{Found, found, is_candidate, cell_set, read_gives, write_gives, write_sized, write_path, write_temps}
-use Rattle.l2_ssa.proofs.Frames.{Matches, outs_of, leave_gives, let_out, allow, NotStuck}
+use Rattle.l2_ssa.proofs.Frames.{outs_of, leave_gives, let_out, allow, NotStuck}
 
 has_length : (ts : List CellType) (i : ℕ) (u : CellType) → slice_get ts i ≡ Some u → 0 < length ts
 has_length [] i u e = cc

@@ -11,3 +11,4 @@ pub mod Copies
 pub mod Whole
 pub mod Givens
 pub mod Solutions
+pub mod Enters

@@ -22,11 +22,11 @@ use Rattle.l2_supply.proofs.Runs.{node_agrees, nodes_agree, back_agrees}
 use Rattle.l2_ssa.specs.Steps.{Names, on, bit, Solves}
 use Rattle.l2_ssa.specs.Walks as walks
 use Rattle.l2_ssa.specs.Walks.{Setting, Walk, Frame, Given, Kind, Bottom, Plain, Rows, past, goes_on, joined, pair, at_label, scatter, head_rows, walk_copies, walk_loop, walk_node, walk}
-use Rattle.l2_ssa.specs.Law.{RowsOf, RanksOf, tests, starts, starts_of, rows_hold}
+use Rattle.l2_ssa.specs.Law.{Matches, RowsOf, RanksOf, tests, starts, starts_of, rows_hold}
 use Rattle.l2_ssa.proofs.Shows.{Spot, Off, At, Start, Nowhere, Standing, Stands, Begins, Shows, Stops, Follows, then_come, joined_shows, joined_stops, solves_first, solves_second}
 use Rattle.l2_ssa.proofs.Labels.{bit_on, leave_come, label_shows, label_stops}
 use Rattle.l2_ssa.proofs.Acts.{meaning, names, Held}
-use Rattle.l2_ssa.proofs.Frames.{Matches, outs_of, let_out, allow, NotStuck}
+use Rattle.l2_ssa.proofs.Frames.{outs_of, let_out, allow, NotStuck}
 use Rattle.l2_ssa.proofs.Instructions as instructions
 use Rattle.l2_ssa.proofs.Instructions.{act_shows, act_stops}
 use Rattle.l2_ssa.proofs.Heads.{entry_all, off_all, Lands, back_all, rows_entry, rows_back, rows_off}

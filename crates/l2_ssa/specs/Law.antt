@@ -1,5 +1,5 @@
 -- The solutions of a code's equations are its cut runs.
-use Rattle.std.specs.Prelude.{◌≡◌, ◌⊎◌, ℕ, zero, suc, ◌≤◌, ℤ, Bool, true, false, ◌&&◌, ◌||◌, List, [], ◌∷◌, ◌++◌, length, Option, Some, None}
+use Rattle.std.specs.Prelude.{◌≡◌, ◌⊎◌, ℕ, zero, suc, ◌≤◌, ℤ, pos, Bool, true, false, not, ◌&&◌, ◌||◌, List, [], ◌∷◌, ◌++◌, length, Option, Some, None}
 use Rattle.l2_runs.specs.declared.outcome.Outcome.TheVariants.{Broken}
 use Rattle.l2_runs.specs.Numbers.{at_number}
 use Rattle.l2_runs.specs.Runs.{End, Over, Fallen, Result, Go, Halt}
@@ -11,11 +11,15 @@ use Rattle.l2_code.specs.Trees.{CodeTree}
 use Rattle.l2_code.specs.Sets.{Family, IsResolved}
 use Rattle.l2_code.specs.Modes.{Cut, types_of, mods_of, limit_of, run_code, start}
 use Rattle.l2_code.specs.WellFormed.{IsWellFormed}
-use Rattle.l2_ssa.specs.Steps.{Names, on, Solves}
+use Rattle.l2_supply.specs.Supply.{Supply, left, right, number_of, IsFailure}
+use Rattle.l2_ssa.specs.Steps.{Names, on, bit, Solves}
+use Rattle.std.specs.Ordering.{int_eq}
+use Rattle.l2_bits.specs.Values.{wrap}
 use Rattle.l2_runs.specs.declared.cells.CellValue.{CellValue}
+use Rattle.l2_runs.specs.declared.cells.CellValue.TheVariants.{Number}
 use Rattle.l2_runs.specs.Store.{Store, cell_at}
 use Rattle.l2_runs.specs.Loops.{Test, Tests, bottom}
-use Rattle.l2_ssa.specs.Walks.{Setting, Kind, Bottom, Plain, Rows, Goal, RowGoal, RankGoal, CheckGoal, Slot, Walk, Event, Out, T, F, walk}
+use Rattle.l2_ssa.specs.Walks.{Setting, Kind, Bottom, Plain, Rows, Goal, RowGoal, RankGoal, CheckGoal, Given, nothing, entering, chosen, taken, half, pair, Slot, Walk, Event, Out, T, F, walk}
 
 -- what rows and rankings say of the values of a loop's variables
 abbrev pub RowsOf : Type 0
@@ -62,6 +66,17 @@ starts_of row g (Rows n) l store = rows_hold row g l 1 n store
 -- where a loop may start back
 abbrev pub starts : RowsOf → Setting → ℕ → Store → Bool
 starts row g l store = starts_of row g (g.kind l) l store
+
+-- ---- the names that choices give
+
+-- the names are those that a supply gives
+abbrev pub Matches : Names → Given → Supply → Type 0
+Matches s nothing u = Unit {0}
+Matches s entering u = int_eq (number_of u) (pos 0) ≡ true
+Matches s (chosen n) u = s n ≡ bit (not (int_eq (number_of u) (pos 0)))
+Matches s (taken n ty) u = s n ≡ Number (wrap ty (number_of u))
+Matches s (half n) u = s n ≡ Number (number_of u)
+Matches s (pair x y) u = Matches s x (left u) × Matches s y (right u)
 
 -- ---- a code and its equations
 
@@ -134,3 +149,18 @@ SolutionsRun =
     (c : CodeTree) (f : Family) → IsWellFormed c → IsResolved c f → (k : ℕ) → 1 ≤ k → (kind : ℕ → Kind) (row : RowsOf) (lower : RanksOf) (s : Names)
     → Solves (record { types = types_of c; row = row; lower = lower }) s 0 (ssa c f k kind).steps
     → (goal : Goal) → HasEvent s goal (ssa c f k kind).events → IsReached c f k row lower kind goal
+
+-- an event that stands for this end is true
+abbrev pub HasEnd : Names → Setting → End → List Event → Type 0
+HasEnd s g x [] = ⊥
+HasEnd s g x (e ∷ es) = ((end_of g e.goal ≡ x) × (on s e.literal ≡ true)) ⊎ HasEnd s g x es
+
+-- where a cut run ends at a failure, some values of the names that choices give make an event of that end true, in whatever way the
+-- equations are then solved; no loop is one without rows whose turns may end
+abbrev pub RunsSolve : Type 0
+RunsSolve =
+    (c : CodeTree) (f : Family) → IsWellFormed c → IsResolved c f → (k : ℕ) → 1 ≤ k → (kind : ℕ → Kind) → ((l : ℕ) → kind l ≡ Plain → ⊥) → (row : RowsOf) (lower : RanksOf)
+    → (choices : List ℤ) (turns : ℕ) (x : End) → IsFailure x
+    → EndsAt x (run_code c (limit_of c f (Cut k (starts row (setting_of c f k kind)))) (tests row lower (setting_of c f k kind)) (start c choices turns))
+    → (u : Supply) × ((s : Names) → Solves (record { types = types_of c; row = row; lower = lower }) s 0 (ssa c f k kind).steps → Matches s (ssa c f k kind).given u
+        → HasEnd s (setting_of c f k kind) x (ssa c f k kind).events)
