@@ -1,6 +1,6 @@
 -- Resolved code does what code does.
 use Rattle.std.specs.Prelude.{if◌then◌else◌}
-use Rattle.std.proofs.Common.{◌≡◌, refl, List, ap, sym, subst, ◌∙◌, ℕ, zero, suc, Bool, true, false, length, Option, Some, None, ◌≤◌, ◌<◌}
+use Rattle.std.proofs.Common.{◌≡◌, refl, List, ap, sym, subst, ℕ, Bool, true, false, length, Option, Some, None, ◌≤◌, ◌<◌}
 use Rattle.l2_runs.specs.Fits.{Layout}
 use Rattle.l2_runs.specs.Store.{Store, Address}
 use Rattle.l2_runs.specs.Runs.{Result, Run, on_go, and_then, done, stop, read, write}
@@ -17,7 +17,7 @@ use Rattle.l2_code.specs.Values.{Types, Temps, no_temps, with_temp, operand_valu
 use Rattle.l2_code.specs.Machine.{Setting, Way, On, Out, or_stuck, act, follow, leave, close, node, nodes}
 use Rattle.l2_code.specs.Sets.{Family, family, HasCell, IsClosedNode, AreClosed}
 use Rattle.l2_code.specs.Modes.{types_of, object_cells, limit_of, start}
-use Rattle.l2_code.specs.WellFormed.{Scope, Names, empty_scope, names_of, behind_node, IsTypedNode, AreTyped}
+use Rattle.l2_code.specs.WellFormed.{Scope, empty_scope, names_of, behind_node, IsTypedNode, AreTyped}
 use Rattle.l2_code_laws.specs.Preserved.{Preserves, LimitPreserves}
 use Rattle.l2_code_laws.specs.Holding.{StoreHolds, TempsHold, WayHolds, behind_nodes}
 use Rattle.l2_code_laws.proofs.Preserving.{Turned, IsLeft, then_keep, done_keep, loop_keep}
@@ -34,9 +34,9 @@ among_all : (list : List Candidate) (o : Option Address) → ((a : Address) → 
 among_all list None h = refl
 among_all list (Some a) h = go (is_among list a) (h a refl)
   where
-  go : (b : Bool) → b ≡ true → (if b then Some a else None) ≡ Some a
-  go true e = refl
-  go false e = absurd (cc)
+    go : (b : Bool) → b ≡ true → (if b then Some a else None) ≡ Some a
+    go true e = refl
+    go false e = absurd (cc)
 
 module _ (c : CodeTree) (s : Sets) (small : (n : ℕ) → length ((types_of c).objects n) ≤ 65536) (g : Setting) (types : g.types ≡ types_of c) where
   abbrev f : Family

@@ -1,5 +1,5 @@
 -- What resolved code does: its reads and writes look for their cell among the candidates alone.
-use Rattle.std.specs.Prelude.{ℕ, Bool, true, if◌then◌else◌, List, Option, Some, None}
+use Rattle.std.specs.Prelude.{Bool, true, if◌then◌else◌, List, Option, Some, None}
 use Rattle.l2_runs.specs.declared.cells.CellType.{CellType}
 use Rattle.l2_runs.specs.Fits.{Layout}
 use Rattle.l2_runs.specs.Store.{Address}
