@@ -1,7 +1,7 @@
 -- Circuits of products and quotients.
-use Rattle.std.specs.Prelude.{ℕ, suc, ◌+◌, Bool, true, false, if◌then◌else◌, List, [], ◌∷◌, length}
-use Rattle.l2_gates.specs.Gates.{Lit, T, F, Made, Bit, xor}
-use Rattle.l2_circuits.specs.Words.{Word, known_word, Sum, top, resized, zeros, where_true, sum, sub, choose}
+use Rattle.std.specs.Prelude.{ℕ, suc, Bool, if◌then◌else◌, List, [], ◌∷◌, length}
+use Rattle.l2_gates.specs.Gates.{Lit, F, Made, xor}
+use Rattle.l2_circuits.specs.Words.{Word, known_word, top, resized, zeros, where_true, sum, sub, choose}
 
 -- ---- products
 

@@ -1,5 +1,5 @@
 -- Circuits on words: lists of literals, bit 0 first. Gates are made in the order in which they stand here.
-use Rattle.std.specs.Prelude.{ℕ, zero, suc, ◌%◌, ◌/◌, ◌==◌, Bool, true, false, if◌then◌else◌, ℤ, pos, negsuc, List, [], ◌∷◌, map}
+use Rattle.std.specs.Prelude.{ℕ, zero, suc, ◌%◌, ◌/◌, ◌==◌, Bool, if◌then◌else◌, ℤ, pos, negsuc, List, [], ◌∷◌, map}
 use Rattle.l2_circuits.specs.declared.columns.Kind.{Kind}
 use Rattle.l2_circuits.specs.declared.columns.Kind.TheVariants.{And, Or, Xor, Choose, Mask, Add, Equal}
 use Rattle.l2_gates.specs.Gates.{Lit, negated, T, F, Made, Bit, known, and, or, xor, mux}

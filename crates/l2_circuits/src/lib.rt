@@ -3,8 +3,12 @@
 
 mod columns;
 mod literals;
+mod products;
+mod shifts;
 mod words;
 
 pub use columns::{Kind, Total};
 pub use literals::{constant, extended, resized, truth_word};
+pub use products::{Quotient, mul, quotients};
+pub use shifts::{shift_left, shift_right};
 pub use words::{ands, choose, convert, eq, less, less_equal, lts, ltu, ors, sub, sum, xors};

@@ -73,12 +73,7 @@ pub fn top_negated(alloc: Global, a: &[Lit]) -> Result<Vec<Lit>, AllocError>
 }
 
 /// So many bits of a word, filled up with this literal.
-pub fn resized(
-    alloc: Global,
-    width: usize,
-    fill: Lit,
-    a: &[Lit],
-) -> Result<Vec<Lit>, AllocError>
+pub fn resized(alloc: Global, width: usize, fill: Lit, a: &[Lit]) -> Result<Vec<Lit>, AllocError>
     ensures { IfOk result (λ w. literals_of w.items ≡ resized width (literal_of fill) (literals_of a.now)) }
 {
     let mut word = Vec::new(alloc);

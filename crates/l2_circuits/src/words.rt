@@ -10,12 +10,7 @@ use l2_gates::Gates;
 use std::alloc::{AllocError, Global};
 
 /// `and` bit by bit.
-pub fn ands(
-    alloc: Global,
-    gates: &mut Gates,
-    a: &[Lit],
-    b: &[Lit],
-) -> Result<Vec<Lit>, AllocError>
+pub fn ands(alloc: Global, gates: &mut Gates, a: &[Lit], b: &[Lit]) -> Result<Vec<Lit>, AllocError>
     ensures bits { IfOk result (λ w. literals_of w.items ≡ (ands (literals_of a.now) (literals_of b.now) gates.old).bits) }
     ensures made { OnOk result (gates.new ≡ (ands (literals_of a.now) (literals_of b.now) gates.old).made) }
 {
@@ -24,12 +19,7 @@ pub fn ands(
 }
 
 /// `or` bit by bit.
-pub fn ors(
-    alloc: Global,
-    gates: &mut Gates,
-    a: &[Lit],
-    b: &[Lit],
-) -> Result<Vec<Lit>, AllocError>
+pub fn ors(alloc: Global, gates: &mut Gates, a: &[Lit], b: &[Lit]) -> Result<Vec<Lit>, AllocError>
     ensures bits { IfOk result (λ w. literals_of w.items ≡ (ors (literals_of a.now) (literals_of b.now) gates.old).bits) }
     ensures made { OnOk result (gates.new ≡ (ors (literals_of a.now) (literals_of b.now) gates.old).made) }
 {
@@ -38,12 +28,7 @@ pub fn ors(
 }
 
 /// `xor` bit by bit.
-pub fn xors(
-    alloc: Global,
-    gates: &mut Gates,
-    a: &[Lit],
-    b: &[Lit],
-) -> Result<Vec<Lit>, AllocError>
+pub fn xors(alloc: Global, gates: &mut Gates, a: &[Lit], b: &[Lit]) -> Result<Vec<Lit>, AllocError>
     ensures bits { IfOk result (λ w. literals_of w.items ≡ (xors (literals_of a.now) (literals_of b.now) gates.old).bits) }
     ensures made { OnOk result (gates.new ≡ (xors (literals_of a.now) (literals_of b.now) gates.old).made) }
 {
@@ -96,12 +81,7 @@ pub fn sum(
 }
 
 /// The difference, and the last carry.
-pub fn sub(
-    alloc: Global,
-    gates: &mut Gates,
-    a: &[Lit],
-    b: &[Lit],
-) -> Result<Total, AllocError>
+pub fn sub(alloc: Global, gates: &mut Gates, a: &[Lit], b: &[Lit]) -> Result<Total, AllocError>
     ensures bits { IfOk result (λ s. literals_of s.bits.items ≡ (sub (literals_of a.now) (literals_of b.now) gates.old).bits) }
     ensures carry { IfOk result (λ s. literal_of s.carry ≡ (sub (literals_of a.now) (literals_of b.now) gates.old).carry) }
     ensures made { OnOk result (gates.new ≡ (sub (literals_of a.now) (literals_of b.now) gates.old).made) }

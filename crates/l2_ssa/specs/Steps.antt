@@ -1,12 +1,10 @@
 -- Equations on names, each of which stands behind the names that it reads, and what solves them.
-use Rattle.std.specs.Prelude.{◌≡◌, ℕ, zero, suc, ◌<◌, ℤ, pos, Bool, true, false, not, ◌&&◌, ◌||◌, ◌==◌, if◌then◌else◌, List, [], ◌∷◌, Option, Some, None, IfSome}
+use Rattle.std.specs.Prelude.{◌≡◌, ℕ, suc, ◌<◌, ℤ, pos, Bool, true, false, not, ◌&&◌, ◌||◌, ◌==◌, if◌then◌else◌, List, [], ◌∷◌, Option, Some, None, IfSome}
 use Rattle.l2_bits.specs.declared.types.Ty.{Ty}
-use Rattle.l2_bits.specs.Types.{bool_type}
 use Rattle.l2_bits.specs.Values.{IsValue}
 use Rattle.l2_runs.specs.declared.cells.CellType.{CellType}
-use Rattle.l2_runs.specs.declared.cells.CellType.TheVariants.{Integer, Pointer}
 use Rattle.l2_runs.specs.declared.cells.CellValue.{CellValue}
-use Rattle.l2_runs.specs.declared.cells.CellValue.TheVariants.{Number, Null, Invalid, At}
+use Rattle.l2_runs.specs.declared.cells.CellValue.TheVariants.{Number, At}
 use Rattle.l2_runs.specs.declared.member.Member.{Member}
 use Rattle.l2_runs.specs.Members.{targets, is_in, Within}
 use Rattle.l2_runs.specs.Operators.{truth}
@@ -25,7 +23,7 @@ pub record Flag : Type 0 where
   pub live : Operand
 
 -- Operands are constants and names: `Temp n` is name n. Each step names the next number. The first operand of most is the path on
--- which the step stands: where it is false, the step says nothing.
+-- which the step stands: where it is false, the step says nothing, but that a choice is one.
 pub data Step : Type 0 where
   -- whether a loop starts back
   Choose : Operand → Step
@@ -114,9 +112,9 @@ pub record Meaning : Type 0 where
 
 -- a step holds of its name
 abbrev pub Holds : Meaning → Names → ℕ → Step → Type 0
-Holds m s n (Choose g) = on s g ≡ true → (b : Bool) × (s n ≡ bit b)
-Holds m s n (Take g ty) = on s g ≡ true → (z : ℤ) × (s n ≡ Number z) × IsValue ty z
-Holds m s n (Half g) = on s g ≡ true → (k : ℕ) × (s n ≡ Number (pos k)) × (k < 131072)
+Holds m s n (Choose g) = (b : Bool) × (s n ≡ bit b)
+Holds m s n (Take g ty) = (z : ℤ) × (s n ≡ Number z) × IsValue ty z
+Holds m s n (Half g) = (k : ℕ) × (s n ≡ Number (pos k)) × (k < 131072)
 Holds m s n (Point g sel off) =
     on s g ≡ true → IfSome (pointer_of m.types.objects (number_in (operand_value s sel)) (number_in (operand_value s off))) (λ v. s n ≡ v)
 Holds m s n (Among g sel off set) =

@@ -4,7 +4,7 @@ ghost use Rattle.l2_meaning.specs.Thresholds.{near};
 
 use std::alloc::{AllocError, Global};
 
-/// No constant of a text is as large as 2^64.
+/// No constant of a text is so far from 0 (`LLONG_MIN` is one constant, so some are negative).
 const LIMIT: i128 = 1 << 64;
 
 /// Those near these constants, in their order. A constant that no text has is want of memory.
@@ -22,7 +22,7 @@ pub fn all_near(alloc: Global, constants: &[i128]) -> Result<Vec<i128>, AllocErr
 fn add_near(all: &mut Vec<i128>, c: i128) -> Result<(), AllocError>
     ensures { IfOk result (λ u. all.new.items ≡ all.old.items ++ near c) }
 {
-    if c < 0 || c >= LIMIT {
+    if c <= -LIMIT || c >= LIMIT {
         return Err(AllocError);
     }
     all.push(c - 1)?;

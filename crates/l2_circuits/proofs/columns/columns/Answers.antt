@@ -1,6 +1,5 @@
-use Rattle.std.proofs.Common.{rules, ◌≡◌, ap, arith, ◌≤◌, min, length}
+use Rattle.std.proofs.Common.{ap, arith}
 use Rattle.l2_gates.specs.Gates.{literal_of, literals_of}
-use Rattle.l2_circuits.specs.Words.{columns}
 use Rattle.l2_circuits.proofs.Passing.{ended}
 use Rattle.l2_circuits.proofs.columns.columns.Goals as goal
 

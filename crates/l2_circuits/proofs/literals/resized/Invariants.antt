@@ -5,4 +5,4 @@ use Rattle.l2_circuits.proofs.literals.resized.Given as goal
 
 abbrev pub invariant-loop-i : goal.invariant-loop-i
 invariant-loop-i l =
-    literals_of l.word.items ++ resized (l.i-end - l.i) (literal_of l.fill) (literals_of (drop l.i l.a)) ≡ resized l.i-end (literal_of l.fill) (literals_of l.a)
+    literals_of l.word.items ++ resized (l.width - l.i) (literal_of l.fill) (literals_of (drop l.i l.a)) ≡ resized l.width (literal_of l.fill) (literals_of l.a)

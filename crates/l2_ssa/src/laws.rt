@@ -1,0 +1,7 @@
+//! What holds of a code's equations: functions without effect whose contracts are the laws.
+ghost use Rattle.l2_ssa.specs.Law.{SolutionsRun};
+
+/// Where names solve the equations of a well-formed code over its sets and an event is true, some cut run of the code ends at that event.
+pub fn solutions_run()
+    ensures { SolutionsRun }
+{}
