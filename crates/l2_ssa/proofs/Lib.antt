@@ -10,5 +10,5 @@ pub mod Turns
 pub mod Copies
 pub mod Whole
 pub mod Givens
-pub mod Solutions
 pub mod Enters
+pub mod Solutions
