@@ -1,10 +1,10 @@
-ghost use Rattle.std.specs.Prelude.{◌≡◌, ◌++◌, ◌∷◌, [], List, length, drop, IfOk, OnOk};
+ghost use Rattle.std.specs.Prelude.{◌≡◌, ◌++◌, ◌∷◌, [], List, length, drop, IfOk, OnOk, slice_get};
 ghost use Rattle.l2_runs.specs.Numbers.{at_number};
 ghost use Rattle.l2_code.specs.Trees.{code_of};
-ghost use Rattle.l2_code.specs.Values.{same_type};
+ghost use Rattle.l2_code.specs.Values.{same_type, is_type, cell_of};
 ghost use Rattle.l2_code.specs.Sets.{IsResolved, AreSetsOf, family, listed, members_of, entry_of};
 ghost use Rattle.l2_code.specs.Modes.{types_of, object_cells};
-ghost use Rattle.l2_deref.specs.Candidates.{cells_from, cells_of, candidates};
+ghost use Rattle.l2_deref.specs.Candidates.{cells_from, cells_of, single, candidates};
 
 use crate::candidate::Candidate;
 use l2_code::{Code, CodeObject, Operand, Sets};
@@ -65,7 +65,12 @@ fn listed<'a>(sets: &'a Sets, temp: u32) -> &'a [Member]
 }
 
 // Appends the cells of a type in an object.
-fn push_cells(list: &mut Vec<Candidate>, ty: CellType, object: u32, types: &[CellType]) -> Result<(), AllocError>
+fn push_cells(
+    list: &mut Vec<Candidate>,
+    ty: CellType,
+    object: u32,
+    types: &[CellType],
+) -> Result<(), AllocError>
     ensures { OnOk result (list.new.items ≡ list.old.items ++ cells_from ty object 0 types.now) }
 {
     let mut offset: u32 = 0;
@@ -79,4 +84,87 @@ fn push_cells(list: &mut Vec<Candidate>, ty: CellType, object: u32, types: &[Cel
         offset += 1;
     }
     Ok(())
+}
+
+// Appends the cells of a type in an object, where the member is one.
+fn push_member(
+    list: &mut Vec<Candidate>,
+    code: &Code,
+    ty: CellType,
+    member: Member,
+) -> Result<(), AllocError>
+    ensures { OnOk result (list.new.items ≡ list.old.items ++ cells_of (types_of (code_of code.now)).objects ty (member ∷ [])) }
+{
+    match member {
+        Member::Null => Ok(()),
+        Member::Invalid => Ok(()),
+        Member::Object(object) => push_cells(
+            list,
+            ty,
+            object,
+            object_cells(code.objects.as_slice(), object),
+        ),
+    }
+}
+
+// Appends the cells of a type in the objects among members.
+fn push_objects(
+    list: &mut Vec<Candidate>,
+    code: &Code,
+    ty: CellType,
+    members: &[Member],
+) -> Result<(), AllocError>
+    ensures { OnOk result (list.new.items ≡ list.old.items ++ cells_of (types_of (code_of code.now)).objects ty members.now) }
+{
+    for member in members {
+        push_member(list, code, ty, *member)?;
+    }
+    Ok(())
+}
+
+// Whether the cell at an offset is of a type.
+fn is_type(types: &[CellType], offset: u32, ty: CellType) -> bool
+    ensures { result ≡ is_type ty (slice_get types.now offset) }
+{
+    match types.get(offset as usize) {
+        Some(t) => is_same(ty, *t),
+        None => false,
+    }
+}
+
+// Appends the cell at a constant, where one of the type is there.
+fn push_constant(
+    list: &mut Vec<Candidate>,
+    code: &Code,
+    ty: CellType,
+    value: CellValue,
+) -> Result<(), AllocError>
+    ensures { OnOk result (list.new.items ≡ list.old.items ++ single (cell_of (types_of (code_of code.now)).objects ty value)) }
+{
+    if let CellValue::At { object, offset } = value {
+        let types = object_cells(code.objects.as_slice(), object);
+        if is_type(types, offset, ty) {
+            list.push(Candidate { object, offset })?;
+        }
+    }
+    Ok(())
+}
+
+impl<'a> Resolved<'a> {
+    /// The cells at which a read or a write of a cell of this type may act at this address, in the order of its set.
+    pub fn candidates(
+        &self,
+        alloc: Global,
+        ty: CellType,
+        address: Operand,
+    ) -> Result<Vec<Candidate>, AllocError>
+        ensures { IfOk result (λ v. v.items ≡ candidates (types_of (code_of self.now.code.now)).objects self.now.sets.now ty address) }
+    {
+        let mut list = Vec::new(alloc);
+        match address {
+            Operand::Constant(value) => push_constant(&mut list, self.code, ty, value)?,
+            Operand::Temp(temp) => push_objects(&mut list, self.code, ty, listed(self.sets, temp))?,
+        }
+        Ok(list)
+    }
 }

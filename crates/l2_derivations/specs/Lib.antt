@@ -1,2 +1,3 @@
 pub mod Goals
+pub mod Problems
 pub mod Sizes

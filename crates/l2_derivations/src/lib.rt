@@ -2,5 +2,9 @@
 #![tactic(auto)]
 
 mod goal;
+mod halves;
+mod runs;
 
 pub use goal::GoalError;
+pub use halves::check_goals;
+pub use runs::{Gate, NoGate, Problem};

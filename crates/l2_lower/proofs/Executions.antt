@@ -50,7 +50,7 @@ kept_starts layout IsCheck (Short k) h = tt
 kept_starts layout IsCheck (Cut k back) h = λ l. record { by = λ s k. kept_match layout IsCheck (back l s) ((h l).by s k) }
 
 pub run_law : (p : ProgramTree) → IsLawful p → (limit : Limit) (tests : Tests) → LimitKeeps (cells_of p) (IsCheckOf p) limit → (s : State) → StoreFits (cells_of p) s.store → Agree (run_program p limit tests s) (run_code (code p) limit tests s)
-run_law p h limit tests back s k = run_agrees AnyEnd (λ o. tt) p h limit tests (kept_starts (cells_of p) (IsCheckOf p) limit back) (λ l q. record { over = λ o. tt; fallen = λ row. tt }) s k
+run_law p h limit tests back s k = (run_agrees AnyEnd (λ o. tt) p h limit tests (kept_starts (cells_of p) (IsCheckOf p) limit back) (λ l q. record { over = λ o. tt; fallen = λ row. tt }) s k).0
 
 -- ---- executions
 

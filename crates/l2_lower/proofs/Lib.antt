@@ -12,3 +12,8 @@ pub mod Weights
 pub mod OperandTypes
 pub mod Lists
 pub mod MainCode
+pub mod Typing
+pub mod ExpressionTypes
+pub mod StatementTypes
+pub mod NeverStuck
+pub mod WellFormedCode

@@ -56,12 +56,17 @@ abbrev Never : {A B : Type 0} → A → B → Type 0
 Never a b = ⊥
 
 module _ (cells : Layout) (Fine : End → Type 0) where
+  -- over, and to an end that is fine
+  abbrev pub EndsFine : Result (Unit {0}) → Type 0
+  EndsFine (Go u s) = ⊥
+  EndsFine (Halt e s) = Fine e
+
   -- a program that comes to its end has ended
-  ends_alike : {A : Type 0} (x : Result A) (y : Result Way) → Match cells Fine {B = Way} (Never {A = Unit {0}}) (on_go x (λ a. over (Over Ended))) y → Agree (on_go {B = Unit {0}} x (λ a. done tt)) (on_go {B = Unit {0}} y (λ w. stop))
+  ends_alike : {A : Type 0} (x : Result A) (y : Result Way) → Match cells Fine {B = Way} (Never {A = Unit {0}}) (on_go x (λ a. over (Over Ended))) y → Agree (on_go {B = Unit {0}} x (λ a. done tt)) (on_go {B = Unit {0}} y (λ w. stop)) × EndsFine (on_go {B = Unit {0}} y (λ w. stop))
   ends_alike (Go a s) (Go w t) h = absurd h
-  ends_alike (Go a s) (Halt f t) (e, alike, p) = record { end = e; states = alike }
+  ends_alike (Go a s) (Halt f t) (e, alike, p) = (record { end = e; states = alike }, subst Fine e p)
   ends_alike (Halt e s) (Go w t) h = absurd h
-  ends_alike (Halt e s) (Halt f t) (q, alike, p) = record { end = q; states = alike }
+  ends_alike (Halt e s) (Halt f t) (q, alike, p) = (record { end = q; states = alike }, subst Fine q p)
 
   module _ (pointed : ℕ → List CellType) (fine : (o : Outcome) → Fine (Over o)) (limit : Limit) (tests : Tests) (calls : Calls) (result : List CellType) (back : StartsAlike cells Fine limit) where
     abbrev code_here : machine.Setting
@@ -110,16 +115,19 @@ module _ (Fine : End → Type 0) (fine : (o : Outcome) → Fine (Over o)) (p : P
   run_is : run_code (code p) limit tests ≡ plain_run (main_among p.names p.functions)
   run_is = ap (λ (types : Types). and_then {B = Unit {0}} (nodes (record { limit = limit; tests = tests; types = types }) true (code p).body no_temps) (λ w. stop)) (program_types p)
 
-  main_agrees : (s : State) → StoreFits (cells_of p) s.store → Agree (enter (setting_of p limit tests) (Some lawful.main_function) s) (plain_run (Some lawful.main_function) s)
+  abbrev Ends : Result (Unit {0}) → Result (Unit {0}) → Type 0
+  Ends x y = Agree x y × EndsFine (cells_of p) Fine y
+
+  main_agrees : (s : State) → StoreFits (cells_of p) s.store → Ends (enter (setting_of p limit tests) (Some lawful.main_function) s) (plain_run (Some lawful.main_function) s)
   main_agrees s k =
       let f = lawful.main_function in
       let g = setting_of p limit tests in
       let main = lawful.functions lawful.main f lawful.has_main in
       let m = main_does (cells_of p) Fine (λ n. pointed_cells (at_number [] n)) fine limit tests (calls_of p limit tests (length p.functions)) f.result back f main.typed ok in
-      subst (λ (x : Result (Unit {0})). Agree x (plain_run (Some f) s)) (assoc_at (declare_all g f.parameters s) (λ u. act g true f.body) (λ e. done tt))
+      subst (λ (x : Result (Unit {0})). Ends x (plain_run (Some f) s)) (assoc_at (declare_all g f.parameters s) (λ u. act g true f.body) (λ e. done tt))
       (ends_alike (cells_of p) Fine (and_then (declare_all g f.parameters) (λ u. act g true f.body) s) _ (m.by s k))
 
-  pub run_agrees : (s : State) → StoreFits (cells_of p) s.store → Agree (run_program p limit tests s) (run_code (code p) limit tests s)
+  pub run_agrees : (s : State) → StoreFits (cells_of p) s.store → Agree (run_program p limit tests s) (run_code (code p) limit tests s) × EndsFine (cells_of p) Fine (run_code (code p) limit tests s)
   run_agrees s k =
-      subst (λ (q : Run (Unit {0})). Agree (run_program p limit tests s) (q s)) (sym run_is)
-      (subst (λ (f : Option FunctionTree). Agree (enter (setting_of p limit tests) f s) (plain_run f s)) (sym lawful.is_main) (main_agrees s k))
+      subst (λ (q : Run (Unit {0})). Ends (run_program p limit tests s) (q s)) (sym run_is)
+      (subst (λ (f : Option FunctionTree). Ends (enter (setting_of p limit tests) f s) (plain_run f s)) (sym lawful.is_main) (main_agrees s k))

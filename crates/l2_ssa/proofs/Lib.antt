@@ -6,3 +6,9 @@ pub mod Reaches
 pub mod Frames
 pub mod Instructions
 pub mod Heads
+pub mod Turns
+pub mod Copies
+pub mod Whole
+pub mod Givens
+pub mod Enters
+pub mod Solutions

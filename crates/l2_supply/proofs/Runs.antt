@@ -83,7 +83,7 @@ scatter_agree : (cells : Layout) (sets : ℕ → Member → Bool) (os : List ℕ
 scatter_agree cells sets [] = goes_agree tt
 scatter_agree cells sets (o ∷ os) = then_agrees (scatter_cells cells (sets o) o 0 (cells o)) (cells_with cells (sets o) o 0 (cells o)) _ _ (cells_agree cells (sets o) o 0 (cells o)) (λ u. scatter_agree cells sets os)
 
-back_agrees : (cells : Layout) (sets : ℕ → Member → Bool) (mods : ℕ → List ℕ) (starts : ℕ → Store → Bool) (l : ℕ) → Agrees (back cells sets mods starts l) (back_with cells sets (mods l) (starts l))
+pub back_agrees : (cells : Layout) (sets : ℕ → Member → Bool) (mods : ℕ → List ℕ) (starts : ℕ → Store → Bool) (l : ℕ) → Agrees (back cells sets mods starts l) (back_with cells sets (mods l) (starts l))
 back_agrees cells sets mods starts l =
     then_agrees (scatter cells sets (mods l)) (scatter_with cells sets (mods l)) (λ u. passing (starts l)) (λ u. without (passing (starts l))) (scatter_agree cells sets (mods l))
     (λ u. without_agrees (passing (starts l)) (plain_passing (starts l)))
@@ -144,7 +144,7 @@ loop_agrees g l r q h b =
     (λ c u. tested_agrees g.tests l (turn_run r) c u (seen (λ w. (tt {0}, close w)) (q c)) (turn_agrees (r c) (q c) (h c))) b))
 
 mutual
-  node_agrees : (g : Setting) (b : Bool) (x : Node) (t : Temps) → Agrees (node (machine_of g) b x t) (node_with g b x t)
+  pub node_agrees : (g : Setting) (b : Bool) (x : Node) (t : Temps) → Agrees (node (machine_of g) b x t) (node_with g b x t)
   node_agrees g b (Do a) t = act_agrees g b a t
   node_agrees g b (Block all) t = seen_agrees (leave t) (nodes (machine_of g) b all t) (nodes_with g b all t) (nodes_agree g b all t)
   node_agrees g b (Loop l all) t = loop_agrees g l (λ c. nodes (machine_of g) c all t) (λ c. nodes_with g c all t) (λ c. nodes_agree g c all t) b

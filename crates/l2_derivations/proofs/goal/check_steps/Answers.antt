@@ -1,10 +1,9 @@
-use Rattle.std.proofs.Common.{rules, ◌≡◌, ◌<◌, ◌+◌, ◌∙◌, ℕ, Err, length, take, sym, ap, subst}
-use Rattle.l2_cnf.specs.Steps.{IsDerivation, IsStep, Step}
-use Rattle.l2_cnf.specs.Lines.{step_at}
-use Rattle.l2_rup.specs.Checked.{Checked, formula_of, known_of, with_step}
+use Rattle.std.proofs.Common.{rules, ◌≡◌, ◌<◌, ◌+◌, ◌∙◌, ℕ, length, ap, subst}
+use Rattle.l2_cnf.specs.Steps.{IsStep}
+use Rattle.l2_rup.specs.Checked.{Checked, known_of, with_step}
 use Rattle.l2_derivations.specs.declared.goal.Fault.TheVariants as fault
 use Rattle.l2_derivations.specs.Goals.{FailsAt}
-use Rattle.l2_derivations.proofs.Runs.{fails_there, next_derived, next_state, state}
+use Rattle.l2_derivations.proofs.Accepted.{fails_there, next_derived, next_state, state}
 use Rattle.l2_derivations.proofs.goal.check_steps.Goals as goal
 
 same_step : (formula : _) (variables : ℕ) (steps : _) (s t : ℕ) → fault.Step s ≡ fault.Step t → FailsAt formula variables steps s → FailsAt formula variables steps t

@@ -1,7 +1,7 @@
 use Rattle.std.proofs.Common.{◌≡◌, take}
 use Rattle.l2_cnf.specs.Steps.{IsDerivation}
 use Rattle.l2_rup.specs.Checked.{formula_of}
-use Rattle.l2_derivations.proofs.Runs.{state}
+use Rattle.l2_derivations.proofs.Accepted.{state}
 use Rattle.l2_derivations.proofs.goal.check_steps.Given as goal
 
 -- the steps so far were accepted

@@ -1,8 +1,8 @@
 -- Steps that were checked one after another.
-use Rattle.std.proofs.Common.{◌≡◌, ◌≢◌, ℕ, ◌+◌, ◌-◌, ◌<◌, ◌≤◌, ℤ, List, [], ◌∷◌, ◌++◌, length, take, drop, get_or, refl, sym, ap, subst, ◌∙◌, append-nil, append_assoc, arith}
+use Rattle.std.proofs.Common.{◌≡◌, ℕ, ◌+◌, ◌-◌, ◌<◌, ℤ, List, [], ◌∷◌, ◌++◌, length, take, drop, refl, sym, ap, subst, ◌∙◌, arith}
 use Rattle.std.proofs.lemmas.List.{at_drop_more, length-take-le, take_more}
 use Rattle.std.proofs.Common.{take-append-drop}
-use Rattle.l2_cnf.specs.Steps.{EndsEmpty, IsDerivation, IsStep, Step, clauses_of}
+use Rattle.l2_cnf.specs.Steps.{IsDerivation, IsStep, Step, clauses_of}
 use Rattle.l2_cnf.specs.Lines.{step_of, step_at}
 use Rattle.l2_cnf.proofs.Derivations.{IsDerivation-push}
 use Rattle.l2_rup.specs.Checked.{Checked, formula_of, known_of, with_step}
@@ -41,9 +41,15 @@ next_derived old steps i number clause hints within numbers clauses all derived 
 pub fails_there : (old : Checked) (steps : List Step) (i number : ℕ) (clause : List ℤ) (hints : List ℕ) → i < length steps → number ≡ (step_at steps i).number → clause ≡ (step_at steps i).clause → hints ≡ (step_at steps i).hints → IsDerivation (formula_of old) old.variables (take i steps) → ¬ IsStep (known_of (state old steps i)) old.variables number clause hints → FailsAt (formula_of old) old.variables steps (i + 1)
 fails_there old steps i number clause hints within numbers clauses all derived bad =
     let parts : steps ≡ take i steps ++ step_at steps i ∷ drop (i + 1) steps = sym (take-append-drop i steps) ∙ at_drop_more (λ rest. take i steps ++ rest) steps i (step_of 0 [] []) within in
-    let count : i + 1 ≡ length (take i steps) + 1 = ap (λ n. n + 1) (sym (length-take-le i steps (omega (arith, within)))) in
-    (take i steps, step_at steps i, drop (i + 1) steps, parts, count, derived,
-    λ step. bad
-    (subst (λ n. IsStep (known_of (state old steps i)) old.variables n clause hints) (sym numbers)
-    (subst (λ c. IsStep (known_of (state old steps i)) old.variables (step_at steps i).number c hints) (sym clauses)
-    (subst (λ h. IsStep (known_of (state old steps i)) old.variables (step_at steps i).number (step_at steps i).clause h) (sym all) step))))
+    let count : i + 1 ≡ length (take i steps) + 1 = ap (λ n. n + 1) (sym (length-take-le i steps (omega (arith, within)))) in (
+      take i steps,
+      step_at steps i,
+      drop (i + 1) steps,
+      parts,
+      count,
+      derived,
+      λ step. bad
+          (subst (λ n. IsStep (known_of (state old steps i)) old.variables n clause hints) (sym numbers)
+          (subst (λ c. IsStep (known_of (state old steps i)) old.variables (step_at steps i).number c hints) (sym clauses)
+          (subst (λ h. IsStep (known_of (state old steps i)) old.variables (step_at steps i).number (step_at steps i).clause h) (sym all) step))),
+    )
