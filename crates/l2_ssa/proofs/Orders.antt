@@ -1,0 +1,171 @@
+-- Each step of a walk reads names before its own.
+use Rattle.std.proofs.Common.{arith, ◌≡◌, ℕ, zero, suc, ◌+◌, ◌<◌, ◌≤◌, Bool, true, false, refl, sym, ap, ◌∙◌, subst, List, [], ◌∷◌, ◌++◌, Option, Some, None, cond}
+use Rattle.std.specs.Prelude.{slice_get, slice_set, slice_index_or, ◌==◌}
+use Rattle.l2_runs.specs.declared.cells.CellType.{CellType}
+use Rattle.l2_runs.specs.declared.cells.CellType.TheVariants.{Integer, Pointer}
+use Rattle.l2_runs.specs.declared.cells.CellValue.TheVariants.{Number, Null, Invalid, At}
+use Rattle.l2_runs.specs.declared.member.Member.{Member}
+use Rattle.l2_runs.specs.declared.member.Member.TheVariants as member
+use Rattle.l2_runs.specs.Numbers.{set_number}
+use Rattle.l2_code.specs.declared.action.Operand.{Operand}
+use Rattle.l2_code.specs.declared.action.Operand.TheVariants.{Constant, Temp}
+use Rattle.l2_code.specs.declared.action.Test.{Test}
+use Rattle.l2_code.specs.declared.action.Test.TheVariants as test
+use Rattle.l2_code.specs.declared.action.Computation.{Computation}
+use Rattle.l2_code.specs.declared.action.Computation.TheVariants.{Numbers, Convert, Move, Pointers, Passes}
+use Rattle.l2_code.specs.declared.action.Action.{Action}
+use Rattle.l2_code.specs.declared.action.Action.TheVariants as action
+use Rattle.l2_code.specs.Sets.{may_be}
+use Rattle.l2_ssa.specs.Steps.{Step, IsBefore, AreBefore, FlagsBefore, operands_of, Reads, InOrder}
+use Rattle.l2_ssa.specs.Walks as walks
+use Rattle.l2_ssa.specs.Walks.{Setting, Slot, Walk, Place, Frame, Block, Last, Early, Entry, Event, past, F, slot_at, or_no_slot, now, test_now, computation_now, compute_step, flags_of, read_steps, write_steps, read_at, write_at, zero_of, candidates, leave_steps, leave_path, with_cell, with_live}
+
+pub before_up : (n k : ℕ) (a : Operand) → n ≤ k → IsBefore n a → IsBefore k a
+before_up n k (Constant v) h b = tt
+before_up n k (Temp i) h b = omega arith
+
+are_up : (n k : ℕ) (xs : List Operand) → n ≤ k → AreBefore n xs → AreBefore k xs
+are_up n k [] h b = tt
+are_up n k (x ∷ xs) h b = (before_up n k x h b.0, are_up n k xs h b.1)
+
+pub past_le : (n : ℕ) (xs : List Step) → n ≤ past n xs
+past_le n [] = omega arith
+past_le n (x ∷ xs) = let h = past_le (suc n) xs in omega arith
+
+pub past_app : (n : ℕ) (xs ys : List Step) → past n (xs ++ ys) ≡ past (past n xs) ys
+past_app n [] ys = refl
+past_app n (x ∷ xs) ys = past_app (suc n) xs ys
+
+pub order_app : (n : ℕ) (xs ys : List Step) → InOrder n xs → InOrder (past n xs) ys → InOrder n (xs ++ ys)
+order_app n [] ys h k = k
+order_app n (x ∷ xs) ys h k = (h.0, order_app (suc n) xs ys h.1 k)
+
+-- ---- what a walk holds
+
+pub record SlotBefore (n : ℕ) (x : Slot) : Type 0 where
+  pub cells : AreBefore n x.cells
+  pub live : IsBefore n x.live
+
+abbrev pub SlotsBefore : ℕ → List Slot → Type 0
+SlotsBefore n [] = Unit {0}
+SlotsBefore n (x ∷ xs) = SlotBefore n x × SlotsBefore n xs
+
+pub record WalkBefore (n : ℕ) (w : Walk) : Type 0 where
+  pub path : IsBefore n w.path
+  pub temps : (i : ℕ) → IsBefore n (w.temps i)
+  pub slots : SlotsBefore n w.slots
+
+abbrev pub FramesBefore : ℕ → List Frame → Type 0
+FramesBefore n [] = Unit {0}
+FramesBefore n (Block ∷ fs) = FramesBefore n fs
+FramesBefore n (Last ∷ fs) = FramesBefore n fs
+FramesBefore n (Early b ∷ fs) = IsBefore n b × FramesBefore n fs
+
+abbrev pub EntriesBefore : ℕ → List Entry → Type 0
+EntriesBefore n [] = Unit {0}
+EntriesBefore n (e ∷ es) = (IsBefore n e.path × SlotsBefore n e.slots) × EntriesBefore n es
+
+abbrev pub EventsBefore : ℕ → List Event → Type 0
+EventsBefore n [] = Unit {0}
+EventsBefore n (e ∷ es) = IsBefore n e.literal × EventsBefore n es
+
+-- a walk from name n on
+pub record Orders (n : ℕ) (o : walks.Out) : Type 0 where
+  pub order : InOrder n o.steps
+  pub after : WalkBefore (past n o.steps) o.after
+  pub entries : EntriesBefore (past n o.steps) o.entries
+  pub events : EventsBefore (past n o.steps) o.events
+
+slots_up : (n k : ℕ) (xs : List Slot) → n ≤ k → SlotsBefore n xs → SlotsBefore k xs
+slots_up n k [] h b = tt
+slots_up n k (x ∷ xs) h b = (record { cells = are_up n k x.cells h b.0.cells; live = before_up n k x.live h b.0.live }, slots_up n k xs h b.1)
+
+pub walk_up : (n k : ℕ) (w : Walk) → n ≤ k → WalkBefore n w → WalkBefore k w
+walk_up n k w h b = record { path = before_up n k w.path h b.path; temps = λ i. before_up n k (w.temps i) h (b.temps i); slots = slots_up n k w.slots h b.slots }
+
+frames_up : (n k : ℕ) (fs : List Frame) → n ≤ k → FramesBefore n fs → FramesBefore k fs
+frames_up n k [] h b = tt
+frames_up n k (Block ∷ fs) h b = frames_up n k fs h b
+frames_up n k (Last ∷ fs) h b = frames_up n k fs h b
+frames_up n k (Early x ∷ fs) h b = (before_up n k x h b.0, frames_up n k fs h b.1)
+
+entries_up : (n k : ℕ) (es : List Entry) → n ≤ k → EntriesBefore n es → EntriesBefore k es
+entries_up n k [] h b = tt
+entries_up n k (e ∷ es) h b = ((before_up n k e.path h b.0.0, slots_up n k e.slots h b.0.1), entries_up n k es h b.1)
+
+events_up : (n k : ℕ) (es : List Event) → n ≤ k → EventsBefore n es → EventsBefore k es
+events_up n k [] h b = tt
+events_up n k (e ∷ es) h b = (before_up n k e.literal h b.0, events_up n k es h b.1)
+
+entries_app : (n : ℕ) (es fs : List Entry) → EntriesBefore n es → EntriesBefore n fs → EntriesBefore n (es ++ fs)
+entries_app n [] fs h k = k
+entries_app n (e ∷ es) fs h k = (h.0, entries_app n es fs h.1 k)
+
+events_app : (n : ℕ) (es fs : List Event) → EventsBefore n es → EventsBefore n fs → EventsBefore n (es ++ fs)
+events_app n [] fs h k = k
+events_app n (e ∷ es) fs h k = (h.0, events_app n es fs h.1 k)
+
+-- one walk, and then another
+pub joined_orders : (given : walks.Given) (n : ℕ) (o p : walks.Out) → Orders n o → Orders (past n o.steps) p → Orders n (walks.joined given o p)
+joined_orders given n o p h k =
+    let e = sym (past_app n o.steps p.steps) in
+    let le = past_le (past n o.steps) p.steps in
+    record {
+      order = order_app n o.steps p.steps h.order k.order;
+      after = subst (λ i. WalkBefore i p.after) e k.after;
+      entries = subst (λ i. EntriesBefore i (o.entries ++ p.entries)) e (entries_app (past (past n o.steps) p.steps) o.entries p.entries (entries_up (past n o.steps) (past (past n o.steps) p.steps) o.entries le h.entries) k.entries);
+      events = subst (λ i. EventsBefore i (o.events ++ p.events)) e (events_app (past (past n o.steps) p.steps) o.events p.events (events_up (past n o.steps) (past (past n o.steps) p.steps) o.events le h.events) k.events);
+    }
+
+-- ---- cells
+
+are_set : (n : ℕ) (xs : List Operand) (i : ℕ) (a : Operand) → AreBefore n xs → IsBefore n a → AreBefore n (slice_set xs i a)
+are_set n [] i a h k = tt
+are_set n (x ∷ xs) zero a h k = (k, h.1)
+are_set n (x ∷ xs) (suc i) a h k = (h.0, are_set n xs i a h.1 k)
+
+are_get : (n : ℕ) (xs : List Operand) (i : ℕ) → AreBefore n xs → IsBefore n (slice_index_or xs i F)
+are_get n [] i h = tt
+are_get n (x ∷ xs) zero h = h.0
+are_get n (x ∷ xs) (suc i) h = are_get n xs i h.1
+
+slots_get : (n : ℕ) (xs : List Slot) (i : ℕ) → SlotsBefore n xs → SlotBefore n (or_no_slot (slice_get xs i))
+slots_get n [] i h = record { cells = tt; live = tt }
+slots_get n (x ∷ xs) zero h = h.0
+slots_get n (x ∷ xs) (suc i) h = slots_get n xs i h.1
+
+slot_before : (n : ℕ) (xs : List Slot) (o : ℕ) → SlotsBefore n xs → SlotBefore n (slot_at xs o)
+slot_before n xs zero h = record { cells = tt; live = tt }
+slot_before n xs (suc i) h = slots_get n xs i h
+
+slots_set : (n : ℕ) (xs : List Slot) (i : ℕ) (x : Slot) → SlotsBefore n xs → SlotBefore n x → SlotsBefore n (slice_set xs i x)
+slots_set n [] i x h k = tt
+slots_set n (y ∷ xs) zero x h k = (k, h.1)
+slots_set n (y ∷ xs) (suc i) x h k = (h.0, slots_set n xs i x h.1 k)
+
+number_set : (n : ℕ) (xs : List Slot) (o : ℕ) (x : Slot) → SlotsBefore n xs → SlotBefore n x → SlotsBefore n (set_number xs o x)
+number_set n xs zero x h k = h
+number_set n xs (suc i) x h k = slots_set n xs i x h k
+
+pub cell_before : (n : ℕ) (xs : List Slot) (o f : ℕ) → SlotsBefore n xs → IsBefore n (walks.cell_at xs o f)
+cell_before n xs o f h = are_get n (slot_at xs o).cells f (slot_before n xs o h).cells
+
+pub with_cell_before : (n : ℕ) (w : Walk) (o f : ℕ) (a : Operand) → WalkBefore n w → IsBefore n a → WalkBefore n (with_cell w o f a)
+with_cell_before n w o f a h k = record {
+  path = h.path;
+  temps = h.temps;
+  slots = number_set n w.slots o _ h.slots (record { cells = are_set n (slot_at w.slots o).cells f a (slot_before n w.slots o h.slots).cells k; live = (slot_before n w.slots o h.slots).live });
+}
+
+pub with_live_before : (n : ℕ) (w : Walk) (o : ℕ) (a : Operand) → WalkBefore n w → IsBefore n a → WalkBefore n (with_live w o a)
+with_live_before n w o a h k = record { path = h.path; temps = h.temps; slots = number_set n w.slots o _ h.slots (record { cells = (slot_before n w.slots o h.slots).cells; live = k }) }
+
+pub with_temp_before : (n : ℕ) (w : Walk) (t : ℕ) (a : Operand) → WalkBefore n w → IsBefore n a → WalkBefore n (walks.with_temp w t a)
+with_temp_before n w t a h k = record { path = h.path; temps = λ i. go i (i == t); slots = h.slots }
+  where
+    go : (i : ℕ) (b : Bool) → IsBefore n (cond b a (w.temps i))
+    go i true = k
+    go i false = h.temps i
+
+pub with_path_before : (n : ℕ) (w : Walk) (p : Operand) → WalkBefore n w → IsBefore n p → WalkBefore n (walks.with_path w p)
+with_path_before n w p h k = record { path = k; temps = h.temps; slots = h.slots }
