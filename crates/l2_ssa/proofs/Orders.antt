@@ -169,3 +169,97 @@ with_temp_before n w t a h k = record { path = h.path; temps = λ i. go i (i == 
 
 pub with_path_before : (n : ℕ) (w : Walk) (p : Operand) → WalkBefore n w → IsBefore n p → WalkBefore n (walks.with_path w p)
 with_path_before n w p h k = record { path = k; temps = h.temps; slots = h.slots }
+
+-- ---- instructions
+
+now_before : (n : ℕ) (w : Walk) (a : Operand) → WalkBefore n w → IsBefore n (now w a)
+now_before n w (Constant v) h = tt
+now_before n w (Temp i) h = h.temps i
+
+next_name : (n : ℕ) → n < suc n
+next_name n = omega arith
+
+le_next : (n : ℕ) → n ≤ suc n
+le_next n = omega arith
+
+test_before : (n : ℕ) (w : Walk) (t : Test) → WalkBefore n w → AreBefore n (operands_of (Passes (test_now w t)))
+test_before n w (test.Division ty a b) h = (now_before n w a h, (now_before n w b h, tt))
+test_before n w (test.Shift ty a) h = (now_before n w a h, tt)
+test_before n w (test.Overflow op ty a b) h = (now_before n w a h, (now_before n w b h, tt))
+test_before n w (test.Index l a) h = (now_before n w a h, tt)
+test_before n w (test.IndexEnd l a) h = (now_before n w a h, tt)
+test_before n w (test.Null a) h = (now_before n w a h, tt)
+test_before n w (test.Invalid a) h = (now_before n w a h, tt)
+test_before n w (test.Live a) h = (now_before n w a h, tt)
+test_before n w (test.Cells x a) h = (now_before n w a h, tt)
+test_before n w (test.Move by a b) h = (now_before n w a h, (now_before n w b h, tt))
+test_before n w (test.Same a b) h = (now_before n w a h, (now_before n w b h, tt))
+
+flag_first : (n o : ℕ) (b : Bool) (xs : List Slot) (rest : List Rattle.l2_ssa.specs.Steps.Flag) → SlotsBefore n xs → FlagsBefore n rest → FlagsBefore n ((cond b (record { object = o; live = (slot_at xs o).live } ∷ []) []) ++ rest)
+flag_first n o true xs rest h k = ((slot_before n xs o h).live, k)
+flag_first n o false xs rest h k = k
+
+flags_before : (n : ℕ) (set : Member → Bool) (xs : List Slot) (o k : ℕ) → SlotsBefore n xs → FlagsBefore n (flags_of set xs o k)
+flags_before n set xs o zero h = tt
+flags_before n set xs o (suc k) h = flag_first n o (set (member.Object o)) xs (flags_of set xs (suc o) k) h (flags_before n set xs (suc o) k h)
+
+test_reads : (n : ℕ) (g : Setting) (w : Walk) (t : Test) → WalkBefore n w → Reads n (compute_step g w (Passes t))
+test_reads n g w (test.Division ty a b) h = (h.path, test_before n w (test.Division ty a b) h)
+test_reads n g w (test.Shift ty a) h = (h.path, test_before n w (test.Shift ty a) h)
+test_reads n g w (test.Overflow op ty a b) h = (h.path, test_before n w (test.Overflow op ty a b) h)
+test_reads n g w (test.Index l a) h = (h.path, test_before n w (test.Index l a) h)
+test_reads n g w (test.IndexEnd l a) h = (h.path, test_before n w (test.IndexEnd l a) h)
+test_reads n g w (test.Null a) h = (h.path, test_before n w (test.Null a) h)
+test_reads n g w (test.Invalid a) h = (h.path, test_before n w (test.Invalid a) h)
+test_reads n g w (test.Live a) h = (h.path, now_before n w a h, flags_before n (may_be g.family a) w.slots 1 g.objects h.slots)
+test_reads n g w (test.Cells x a) h = (h.path, test_before n w (test.Cells x a) h)
+test_reads n g w (test.Move by a b) h = (h.path, test_before n w (test.Move by a b) h)
+test_reads n g w (test.Same a b) h = (h.path, test_before n w (test.Same a b) h)
+
+compute_reads : (n : ℕ) (g : Setting) (w : Walk) (c : Computation) → WalkBefore n w → Reads n (compute_step g w c)
+compute_reads n g w (Numbers op ty a b) h = (h.path, (now_before n w a h, (now_before n w b h, tt)))
+compute_reads n g w (Convert ty a) h = (h.path, (now_before n w a h, tt))
+compute_reads n g w (Move by a b) h = (h.path, (now_before n w a h, (now_before n w b h, tt)))
+compute_reads n g w (Pointers op a b) h = (h.path, (now_before n w a h, (now_before n w b h, tt)))
+compute_reads n g w (Passes t) h = test_reads n g w t h
+
+read_order : (w : Walk) (a : Operand) (ty : CellType) (ps : List Place) (v : Operand) (n : ℕ) → WalkBefore n w → IsBefore n a → IsBefore n v
+    → InOrder n (read_steps w a ty ps v n).steps × IsBefore (past n (read_steps w a ty ps v n).steps) (read_steps w a ty ps v n).value
+read_order w a ty [] v n h k b = (tt, b)
+read_order w a ty (p ∷ ps) v n h k b =
+    let r = read_order w a ty ps (Temp n) (suc n) (walk_up n (suc n) w (le_next n) h) (before_up n (suc n) a (le_next n) k) (next_name n) in
+    (((h.path, k, cell_before n w.slots p.object p.offset h.slots, b), r.0), r.1)
+
+read_at_order : (g : Setting) (w : Walk) (ty : CellType) (a : Operand) (n : ℕ) → WalkBefore n w → InOrder n (read_at g w ty a n).steps × IsBefore (past n (read_at g w ty a n).steps) (read_at g w ty a n).value
+read_at_order g w ty (Constant (At o f)) n h = (tt, cell_before n w.slots o f h.slots)
+read_at_order g w (Integer ty) (Constant (Number z)) n h = (tt, tt)
+read_at_order g w (Integer ty) (Constant Null) n h = (tt, tt)
+read_at_order g w (Integer ty) (Constant Invalid) n h = (tt, tt)
+read_at_order g w Pointer (Constant (Number z)) n h = (tt, tt)
+read_at_order g w Pointer (Constant Null) n h = (tt, tt)
+read_at_order g w Pointer (Constant Invalid) n h = (tt, tt)
+read_at_order g w (Integer ty) (Temp t) n h = read_order w (w.temps t) (Integer ty) (candidates g (g.family.temp t) (Integer ty) 1 g.objects) (zero_of (Integer ty)) n h (h.temps t) tt
+read_at_order g w Pointer (Temp t) n h = read_order w (w.temps t) Pointer (candidates g (g.family.temp t) Pointer 1 g.objects) (zero_of Pointer) n h (h.temps t) tt
+
+write_order : (a : Operand) (ty : CellType) (x : Operand) (ps : List Place) (n : ℕ) (w : Walk) → WalkBefore n w → IsBefore n a → IsBefore n x
+    → InOrder n (write_steps a ty x ps n w).steps × WalkBefore (past n (write_steps a ty x ps n w).steps) (write_steps a ty x ps n w).walk
+write_order a ty x [] n w h k b = (tt, h)
+write_order a ty x (p ∷ ps) n w h k b =
+    let r = write_order a ty x ps (suc n) (with_cell w p.object p.offset (Temp n)) (with_cell_before (suc n) w p.object p.offset (Temp n) (walk_up n (suc n) w (le_next n) h) (next_name n))
+            (before_up n (suc n) a (le_next n) k) (before_up n (suc n) x (le_next n) b) in
+    (((h.path, k, b, cell_before n w.slots p.object p.offset h.slots), r.0), r.1)
+
+write_at_order : (g : Setting) (w : Walk) (ty : CellType) (a x : Operand) (n : ℕ) → WalkBefore n w → IsBefore n x → InOrder n (write_at g w ty a x n).steps × WalkBefore (past n (write_at g w ty a x n).steps) (write_at g w ty a x n).walk
+write_at_order g w ty (Constant (At o f)) x n h b = (tt, with_cell_before n w o f x h b)
+write_at_order g w ty (Constant (Number z)) x n h b = (tt, h)
+write_at_order g w ty (Constant Null) x n h b = (tt, h)
+write_at_order g w ty (Constant Invalid) x n h b = (tt, h)
+write_at_order g w ty (Temp t) x n h b = write_order (w.temps t) ty x (candidates g (g.family.temp t) ty 1 g.objects) n w h (h.temps t) b
+
+leave_order : (fs : List Frame) (d : ℕ) (p : Operand) (n : ℕ) → FramesBefore n fs → IsBefore n p → InOrder n (leave_steps fs d p n) × IsBefore (past n (leave_steps fs d p n)) (leave_path fs d p n)
+leave_order [] d p n h k = (tt, k)
+leave_order (Last ∷ fs) d p n h k = leave_order fs d p n h k
+leave_order (Early b ∷ fs) d p n h k =
+    let r = leave_order fs d (Temp n) (suc n) (frames_up n (suc n) fs (le_next n) h.1) (next_name n) in (((k, h.0), r.0), r.1)
+leave_order (Block ∷ fs) zero p n h k = (tt, k)
+leave_order (Block ∷ fs) (suc d) p n h k = leave_order fs d p n h k
