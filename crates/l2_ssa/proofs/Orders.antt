@@ -263,3 +263,112 @@ leave_order (Early b ∷ fs) d p n h k =
     let r = leave_order fs d (Temp n) (suc n) (frames_up n (suc n) fs (le_next n) h.1) (next_name n) in (((k, h.0), r.0), r.1)
 leave_order (Block ∷ fs) zero p n h k = (tt, k)
 leave_order (Block ∷ fs) (suc d) p n h k = leave_order fs d p n h k
+
+check_order : (rk : Bool) (k : ℕ) (c a : Operand) (n : ℕ) (w : Walk) → IsBefore n c → IsBefore n a → WalkBefore n w → Orders n (walks.on_check rk k c a n w)
+check_order true k c a n w hc ha h = record {
+  order = ((h.path, ha), tt);
+  after = with_path_before (suc n) w (Temp n) (walk_up n (suc n) w (le_next n) h) (next_name n);
+  entries = tt;
+  events = tt;
+}
+check_order false k c a n w hc ha h =
+    let n1 = suc n in
+    let n2 = suc (suc n) in
+    let n3 = suc (suc (suc n)) in
+    record {
+      order = ((h.path, hc), ((next_name n, before_up n n1 a (le_next n) ha), ((before_up n n2 w.path (omega arith) h.path, before_up n n2 a (omega arith) ha), tt)));
+      after = with_path_before n3 w (Temp n2) (walk_up n n3 w (omega arith) h) (next_name n2);
+      entries = tt;
+      events = (omega arith, tt);
+    }
+
+unless_order : (fs : List Frame) (d : ℕ) (a : Operand) (n : ℕ) (w : Walk) → FramesBefore n fs → IsBefore n a → WalkBefore n w → Orders n (walks.on_unless fs d a n w)
+unless_order fs d a n w hf ha h =
+    let r = leave_order fs d (Temp n) (suc n) (frames_up n (suc n) fs (le_next n) hf) (next_name n) in
+    let xs = leave_steps fs d (Temp n) (suc n) in
+    let k = past (suc n) xs in
+    let le = past_le (suc n) xs in
+    let e = sym (past_app (suc n) xs (Rattle.l2_ssa.specs.Steps.Both w.path a ∷ [])) in
+    record {
+      order = ((h.path, ha), order_app (suc n) xs (Rattle.l2_ssa.specs.Steps.Both w.path a ∷ []) r.0 ((before_up n k w.path (omega (arith, le)) h.path, before_up n k a (omega (arith, le)) ha), tt));
+      after = subst (λ i. WalkBefore i (walks.with_path w (Temp k))) e (with_path_before (suc k) w (Temp k) (walk_up n (suc k) w (omega (arith, le)) h) (next_name k));
+      entries = subst (λ i. EntriesBefore i (walks.on_unless fs d a n w).entries) e ((before_up k (suc k) (leave_path fs d (Temp n) (suc n)) (le_next k) r.1, slots_up n (suc k) w.slots (omega (arith, le)) h.slots), tt);
+      events = tt;
+    }
+
+goto_order : (fs : List Frame) (d n : ℕ) (w : Walk) → FramesBefore n fs → WalkBefore n w → Orders n (walks.on_goto fs d n w)
+goto_order fs d n w hf h =
+    let r = leave_order fs d w.path n hf h.path in
+    let le = past_le n (leave_steps fs d w.path n) in
+    record {
+      order = r.0;
+      after = with_path_before (past n (leave_steps fs d w.path n)) w F (walk_up n (past n (leave_steps fs d w.path n)) w le h) tt;
+      entries = ((r.1, slots_up n (past n (leave_steps fs d w.path n)) w.slots le h.slots), tt);
+      events = tt;
+    }
+
+act_order : (g : Setting) (fs : List Frame) (c : Operand) (n : ℕ) (w : Walk) (a : Action) → FramesBefore n fs → IsBefore n c → WalkBefore n w → Orders n (walks.walk_action g fs c n w a)
+act_order g fs c n w (action.Compute t x) hf hc h = record {
+  order = (compute_reads n g w x h, tt);
+  after = with_temp_before (suc n) w t (Temp n) (walk_up n (suc n) w (le_next n) h) (next_name n);
+  entries = tt;
+  events = tt;
+}
+act_order g fs c n w (action.Read t ty a) hf hc h =
+    let r = read_at_order g w ty a n h in
+    let k = past n (read_at g w ty a n).steps in
+    record { order = r.0; after = with_temp_before k w t (read_at g w ty a n).value (walk_up n k w (past_le n (read_at g w ty a n).steps) h) r.1; entries = tt; events = tt }
+act_order g fs c n w (action.Write ty a x) hf hc h =
+    let r = write_at_order g w ty a (now w x) n h (now_before n w x h) in record { order = r.0; after = r.1; entries = tt; events = tt }
+act_order g fs c n w (action.Choice t ty) hf hc h = record {
+  order = (h.path, tt);
+  after = with_temp_before (suc n) w t (Temp n) (walk_up n (suc n) w (le_next n) h) (next_name n);
+  entries = tt;
+  events = tt;
+}
+act_order g fs c n w (action.Assume a) hf hc h = record {
+  order = ((h.path, now_before n w a h), tt);
+  after = with_path_before (suc n) w (Temp n) (walk_up n (suc n) w (le_next n) h) (next_name n);
+  entries = tt;
+  events = tt;
+}
+act_order g fs c n w (action.Check k a) hf hc h = check_order g.ranks k c (now w a) n w hc (now_before n w a h) h
+act_order g fs c n w (action.Unless a d) hf hc h = unless_order fs d (now w a) n w hf (now_before n w a h) h
+act_order g fs c n w (action.Goto d) hf hc h = goto_order fs d n w hf h
+act_order g fs c n w (action.Live o) hf hc h = record { order = tt; after = with_live_before n w o walks.T h tt; entries = tt; events = tt }
+act_order g fs c n w (action.Dead o) hf hc h = record { order = tt; after = with_live_before n w o F h tt; entries = tt; events = tt }
+act_order g fs c n w action.End hf hc h = record { order = tt; after = with_path_before n w F h tt; entries = tt; events = tt }
+
+-- ---- labels
+
+module _ (g : Setting) (p h : Operand) where
+  cells_order : (ts : List CellType) (xs ys : List Operand) (n : ℕ) → IsBefore n p → IsBefore n h → AreBefore n xs → AreBefore n ys
+      → InOrder n (walks.merge_cells p h ts xs ys) × AreBefore (past n (walks.merge_cells p h ts xs ys)) (walks.merged_cells n ts xs ys)
+  cells_order [] xs ys n a b x y = (tt, tt)
+  cells_order (t ∷ ts) [] ys n a b x y = (tt, tt)
+  cells_order (t ∷ ts) (u ∷ xs) [] n a b x y = (tt, tt)
+  cells_order (t ∷ ts) (u ∷ xs) (v ∷ ys) n a b x y =
+      let r = cells_order ts xs ys (suc n) (before_up n (suc n) p (le_next n) a) (before_up n (suc n) h (le_next n) b) (are_up n (suc n) xs (le_next n) x.1) (are_up n (suc n) ys (le_next n) y.1) in
+      let le = past_le (suc n) (walks.merge_cells p h ts xs ys) in
+      (((a, b, x.0, y.0), r.0), (omega (arith, le), r.1))
+
+  slots_order : (xs ys : List Slot) (o n i k : ℕ) → IsBefore n p → IsBefore n h → SlotsBefore n xs → SlotsBefore n ys → past n (walks.merge_slots g p h o xs ys) ≤ k → past i (walks.merge_flags p h xs ys) ≤ k
+      → InOrder n (walks.merge_slots g p h o xs ys) × SlotsBefore k (walks.merged_slots g p h n i o xs ys)
+  slots_order [] ys o n i k a b x y l f = (tt, tt)
+  slots_order (u ∷ xs) [] o n i k a b x y l f = (tt, tt)
+  slots_order (u ∷ xs) (v ∷ ys) o n i k a b x y l f =
+      let cs = walks.merge_cells p h (g.types.objects o) u.cells v.cells in
+      let n1 = past n cs in
+      let le = past_le n cs in
+      let e = past_app n cs (walks.merge_slots g p h (suc o) xs ys) in
+      let c = cells_order (g.types.objects o) u.cells v.cells n a b x.0.cells y.0.cells in
+      let lf = past_le (suc i) (walks.merge_flags p h xs ys) in
+      let ls = past_le n1 (walks.merge_slots g p h (suc o) xs ys) in
+      let r = slots_order xs ys (suc o) n1 (suc i) k (before_up n n1 p le a) (before_up n n1 h le b) (slots_up n n1 xs le x.1) (slots_up n n1 ys le y.1) (omega (arith, l, e)) f in
+      (order_app n cs (walks.merge_slots g p h (suc o) xs ys) c.0 r.0, (record { cells = are_up n1 k (walks.merged_cells n (g.types.objects o) u.cells v.cells) (omega (arith, l, e, ls)) c.1; live = omega (arith, f, lf) }, r.1))
+
+  flags_order : (xs ys : List Slot) (n : ℕ) → IsBefore n p → IsBefore n h → SlotsBefore n xs → SlotsBefore n ys → InOrder n (walks.merge_flags p h xs ys)
+  flags_order [] ys n a b x y = tt
+  flags_order (u ∷ xs) [] n a b x y = tt
+  flags_order (u ∷ xs) (v ∷ ys) n a b x y =
+      ((a, b, x.0.live, y.0.live), flags_order xs ys (suc n) (before_up n (suc n) p (le_next n) a) (before_up n (suc n) h (le_next n) b) (slots_up n (suc n) xs (le_next n) x.1) (slots_up n (suc n) ys (le_next n) y.1))
