@@ -372,3 +372,202 @@ module _ (g : Setting) (p h : Operand) where
   flags_order (u ∷ xs) [] n a b x y = tt
   flags_order (u ∷ xs) (v ∷ ys) n a b x y =
       ((a, b, x.0.live, y.0.live), flags_order xs ys (suc n) (before_up n (suc n) p (le_next n) a) (before_up n (suc n) h (le_next n) b) (slots_up n (suc n) xs (le_next n) x.1) (slots_up n (suc n) ys (le_next n) y.1))
+
+module _ (g : Setting) where
+  merge_order : (d : ℕ) (e : Entry) (n : ℕ) (w : Walk) → IsBefore n e.path → SlotsBefore n e.slots → WalkBefore n w
+      → InOrder n (walks.merge_if g d e n w).steps × WalkBefore (past n (walks.merge_if g d e n w).steps) (walks.merge_if g d e n w).walk
+  merge_order (suc d) e n w a x h = (tt, h)
+  merge_order zero e n w a x h =
+      let cs = walks.merge_slots g w.path e.path 1 e.slots w.slots in
+      let fl = walks.merge_flags w.path e.path e.slots w.slots in
+      let n1 = past n cs in
+      let n2 = past n1 fl in
+      let l1 = past_le n cs in
+      let l2 = past_le n1 fl in
+      let ei = Rattle.l2_ssa.specs.Steps.Either w.path e.path ∷ [] in
+      let s = slots_order g w.path e.path e.slots w.slots 1 n n1 (suc n2) h.path a x h.slots (omega (arith, l1, l2)) (omega (arith, l1, l2)) in
+      let ends : past n (cs ++ (fl ++ ei)) ≡ suc n2 = past_app n cs (fl ++ ei) ∙ past_app n1 fl ei in
+      (order_app n cs (fl ++ ei) s.0
+          (order_app n1 fl ei (flags_order g w.path e.path e.slots w.slots n1 (before_up n n1 w.path l1 h.path) (before_up n n1 e.path l1 a) (slots_up n n1 e.slots l1 x) (slots_up n n1 w.slots l1 h.slots))
+              ((before_up n n2 w.path (omega (arith, l1, l2)) h.path, before_up n n2 e.path (omega (arith, l1, l2)) a), tt)),
+       subst (λ i. WalkBefore i (walks.merge_if g zero e n w).walk) (sym ends)
+         (record { path = next_name n2; temps = λ i. before_up n (suc n2) (w.temps i) (omega (arith, l1, l2)) (h.temps i); slots = s.1 }))
+
+  merges_order : (es : List Entry) (n : ℕ) (w : Walk) → EntriesBefore n es → WalkBefore n w → InOrder n (walks.merge_all g es n w).steps × WalkBefore (past n (walks.merge_all g es n w).steps) (walks.merge_all g es n w).walk
+  merges_order [] n w x h = (tt, h)
+  merges_order (e ∷ es) n w x h =
+      let m = walks.merge_if g e.depth e n w in
+      let k = past n m.steps in
+      let r = merge_order e.depth e n w x.0.0 x.0.1 h in
+      let q = merges_order es k m.walk (entries_up n k es (past_le n m.steps) x.1) r.1 in
+      let rest = (walks.merge_all g es k m.walk).steps in
+      (order_app n m.steps rest r.0 q.0, subst (λ i. WalkBefore i (walks.merge_all g es k m.walk).walk) (sym (past_app n m.steps rest)) q.1)
+
+  outer_if_before : (n d : ℕ) (e : Entry) (es : List Entry) → IsBefore n e.path × SlotsBefore n e.slots → EntriesBefore n es → EntriesBefore n (walks.outer_if d e es)
+  outer_if_before n zero e es h k = k
+  outer_if_before n (suc d) e es h k = (h, k)
+
+  outer_before : (n : ℕ) (es : List Entry) → EntriesBefore n es → EntriesBefore n (walks.outer es)
+  outer_before n [] h = tt
+  outer_before n (e ∷ es) h = outer_if_before n e.depth e (walks.outer es) h.0 (outer_before n es h.1)
+
+  label_order : (temps : ℕ → Operand) (n : ℕ) (o : walks.Out) → ((i : ℕ) → IsBefore n (temps i)) → Orders n o → Orders n (walks.at_label g temps n o)
+  label_order temps n o ht h =
+      let k = past n o.steps in
+      let m = walks.merge_all g o.entries k o.after in
+      let r = merges_order o.entries k o.after h.entries h.after in
+      let e = sym (past_app n o.steps m.steps) in
+      let l1 = past_le n o.steps in
+      let l2 = past_le k m.steps in
+      record {
+        order = order_app n o.steps m.steps h.order r.0;
+        after = subst (λ i. WalkBefore i (record m.walk { temps = temps })) e (record { path = r.1.path; temps = λ i. before_up n (past k m.steps) (temps i) (omega (arith, l1, l2)) (ht i); slots = r.1.slots });
+        entries = subst (λ i. EntriesBefore i (walks.outer o.entries)) e (entries_up k (past k m.steps) (walks.outer o.entries) l2 (outer_before k o.entries h.entries));
+        events = subst (λ i. EventsBefore i o.events) e (events_up k (past k m.steps) o.events l2 h.events);
+      }
+
+  -- ---- heads of loops
+
+  module _ (p b : Operand) where
+    one_order : (o f : ℕ) (t : CellType) (n : ℕ) (w : Walk) → IsBefore n p → IsBefore n b → WalkBefore n w → Orders n (walks.scatter_one g p b o f t n w)
+    one_order o f (Integer ty) n w hp hb h = record {
+      order = (hp, ((before_up n (suc n) p (le_next n) hp, before_up n (suc n) b (le_next n) hb, next_name n, cell_before (suc n) w.slots o f (slots_up n (suc n) w.slots (le_next n) h.slots)), tt));
+      after = with_cell_before (suc (suc n)) w o f (Temp (suc n)) (walk_up n (suc (suc n)) w (omega arith) h) (next_name (suc n));
+      entries = tt;
+      events = tt;
+    }
+    one_order o f Pointer n w hp hb h =
+        let n1 = suc n in
+        let n2 = suc n1 in
+        let n3 = suc n2 in
+        let n4 = suc n3 in
+        let n5 = suc n4 in
+        let n6 = suc n5 in
+        let n7 = suc n6 in
+        record {
+          order = (hp, (before_up n n1 p (omega arith) hp, ((before_up n n2 p (omega arith) hp, omega arith, omega arith),
+              ((before_up n n3 p (omega arith) hp, before_up n n3 b (omega arith) hb, omega arith, cell_before n3 w.slots o f (slots_up n n3 w.slots (omega arith) h.slots)),
+              ((before_up n n4 p (omega arith) hp, omega arith, omega arith), ((before_up n n5 b (omega arith) hb, omega arith), ((before_up n n6 w.path (omega arith) h.path, omega arith), tt)))))));
+          after = with_path_before n7 (with_cell w o f (Temp n3)) (Temp n6) (with_cell_before n7 w o f (Temp n3) (walk_up n n7 w (omega arith) h) (omega arith)) (omega arith);
+          entries = tt;
+          events = tt;
+        }
+
+    cells_orders : (o f : ℕ) (ts : List CellType) (n : ℕ) (w : Walk) → IsBefore n p → IsBefore n b → WalkBefore n w → Orders n (walks.scatter_cells g p b o f ts n w)
+    cells_orders o f [] n w hp hb h = record { order = tt; after = h; entries = tt; events = tt }
+    cells_orders o f (t ∷ ts) n w hp hb h =
+        let x = walks.scatter_one g p b o f t n w in
+        let k = past n x.steps in
+        let hx = one_order o f t n w hp hb h in
+        joined_orders _ n x (walks.scatter_cells g p b o (suc f) ts k x.after) hx (cells_orders o (suc f) ts k x.after (before_up n k p (past_le n x.steps) hp) (before_up n k b (past_le n x.steps) hb) hx.after)
+
+    scatter_orders : (os : List ℕ) (n : ℕ) (w : Walk) → IsBefore n p → IsBefore n b → WalkBefore n w → Orders n (walks.scatter g p b os n w)
+    scatter_orders [] n w hp hb h = record { order = tt; after = h; entries = tt; events = tt }
+    scatter_orders (o ∷ os) n w hp hb h =
+        let x = walks.scatter_cells g p b o 0 (g.types.objects o) n w in
+        let k = past n x.steps in
+        let hx = cells_orders o 0 (g.types.objects o) n w hp hb h in
+        joined_orders _ n x (walks.scatter g p b os k x.after) hx (scatter_orders os k x.after (before_up n k p (past_le n x.steps) hp) (before_up n k b (past_le n x.steps) hb) hx.after)
+
+    vars_before : (n : ℕ) (xs : List Slot) (vs : List ℕ) → SlotsBefore n xs → AreBefore n (walks.vars_now xs vs)
+    vars_before n xs [] h = tt
+    vars_before n xs (v ∷ vs) h = (cell_before n xs v 0 h, vars_before n xs vs h)
+
+    head_order : (l i more n : ℕ) (w : Walk) → IsBefore n p → IsBefore n b → WalkBefore n w
+        → InOrder n (walks.head_rows g p b l i more n w).steps × WalkBefore (past n (walks.head_rows g p b l i more n w).steps) (walks.head_rows g p b l i more n w).walk
+    head_order l i zero n w hp hb h = (tt, h)
+    head_order l i (suc more) n w hp hb h =
+        let n1 = suc n in
+        let n2 = suc n1 in
+        let n3 = suc n2 in
+        let r = head_order l (suc i) more n3 (walks.with_path w (Temp n2)) (before_up n n3 p (omega arith) hp) (before_up n n3 b (omega arith) hb) (with_path_before n3 w (Temp n2) (walk_up n n3 w (omega arith) h) (next_name n2)) in
+        (((hp, vars_before n w.slots (g.vars l) h.slots), ((before_up n n1 b (omega arith) hb, omega arith), ((before_up n n2 w.path (omega arith) h.path, omega arith), r.0))), r.1)
+
+    end_order : (l i more n : ℕ) (w : Walk) → IsBefore n p → IsBefore n b → WalkBefore n w → Orders n (walks.end_rows g p b l i more n w)
+    end_order l i zero n w hp hb h = record { order = tt; after = h; entries = tt; events = tt }
+    end_order l i (suc more) n w hp hb h =
+        let n1 = suc n in
+        let n2 = suc n1 in
+        let n3 = suc n2 in
+        let n4 = suc n3 in
+        let hw = with_path_before n4 w (Temp n3) (walk_up n n4 w (omega arith) h) (next_name n3) in
+        let first : walks.Out = record (walks.stepped (Rattle.l2_ssa.specs.Steps.Both w.path b ∷ Rattle.l2_ssa.specs.Steps.Row p l i (walks.vars_now w.slots (g.vars l)) ∷ Rattle.l2_ssa.specs.Steps.But (Temp n) (Temp n1) ∷ Rattle.l2_ssa.specs.Steps.Both w.path (Temp n1) ∷ []) (walks.with_path w (Temp n3))) { events = walks.event (walks.RowGoal l i) (Temp n2) } in
+        joined_orders walks.nothing n first (walks.end_rows g p b l (suc i) more n4 (walks.with_path w (Temp n3)))
+        (record {
+          order = ((h.path, hb), ((before_up n n1 p (omega arith) hp, vars_before n1 w.slots (g.vars l) (slots_up n n1 w.slots (omega arith) h.slots)), ((omega arith, omega arith), ((before_up n n3 w.path (omega arith) h.path, omega arith), tt))));
+          after = hw;
+          entries = tt;
+          events = (omega arith, tt);
+        })
+        (end_order l (suc i) more n4 (walks.with_path w (Temp n3)) (before_up n n4 p (omega arith) hp) (before_up n n4 b (omega arith) hb) hw)
+
+  -- ---- ends of turns and copies
+
+  rank_order : (rk : Bool) (p c : Operand) (l : ℕ) (old : List Slot) (n : ℕ) (w : Walk) → IsBefore n p → IsBefore n c → SlotsBefore n old → WalkBefore n w → Orders n (walks.end_rank g rk p c l old n w)
+  rank_order false p c l old n w hp hc ho h = record { order = tt; after = h; entries = tt; events = tt }
+  rank_order true p c l old n w hp hc ho h =
+      let n1 = suc n in
+      let n2 = suc n1 in
+      let n3 = suc n2 in
+      record {
+        order = ((h.path, hc), ((before_up n n1 p (omega arith) hp, are_up n n1 (walks.vars_now old (g.vars l)) (omega arith) (vars_before p c n old (g.vars l) ho), vars_before p c n1 w.slots (g.vars l) (slots_up n n1 w.slots (omega arith) h.slots)), ((omega arith, omega arith), tt)));
+        after = walk_up n n3 w (omega arith) h;
+        entries = tt;
+        events = (omega arith, tt);
+      }
+
+  turn_order : (kind : walks.Kind) (c : Operand) (l : ℕ) (old : List Slot) (n : ℕ) (w : Walk) → IsBefore n c → SlotsBefore n old → WalkBefore n w → Orders n (walks.end_turn g kind c l old n w)
+  turn_order walks.Bottom c l old n w hc ho h = record { order = ((h.path, hc), tt); after = with_path_before (suc n) w F (walk_up n (suc n) w (le_next n) h) tt; entries = tt; events = (next_name n, tt) }
+  turn_order walks.Plain c l old n w hc ho h = record { order = tt; after = h; entries = tt; events = tt }
+  turn_order (walks.Rows r) c l old n w hc ho h =
+      let o = walks.end_rows g w.path c l 1 r n w in
+      let k = past n o.steps in
+      let le = past_le n o.steps in
+      let ho' = end_order w.path c l 1 r n w h.path hc h in
+      joined_orders walks.nothing n o (walks.end_rank g g.ranks w.path c l old k o.after) ho'
+      (rank_order g.ranks w.path c l old k o.after (before_up n k w.path le h.path) (before_up n k c le hc) (slots_up n k old le ho) ho'.after)
+
+  count_order : (last : Bool) (p b c : Operand) (n : ℕ) → IsBefore n p → IsBefore n b → IsBefore n c
+      → InOrder n (walks.count_steps last p b c) × IsBefore (past n (walks.count_steps last p b c)) (walks.count_name last c n)
+  count_order true p b c n hp hb hc = (tt, hc)
+  count_order false p b c n hp hb hc = (((hp, hc, hb), tt), next_name n)
+
+  frame_before : (last : Bool) (b : Operand) (n : ℕ) (fs : List Frame) → IsBefore n b → FramesBefore n fs → FramesBefore n (walks.copy_frame last b ∷ fs)
+  frame_before true b n fs hb hf = hf
+  frame_before false b n fs hb hf = (hb, hf)
+
+  behind_order : (hs : List Operand) (xs : List Step) (n : ℕ) (o : walks.Out) → InOrder n xs → Orders (past n xs) o → Orders n (walks.behind hs xs o)
+  behind_order hs xs n o h k =
+      let e = sym (past_app n xs o.steps) in
+      record {
+        order = order_app n xs o.steps h k.order;
+        after = subst (λ i. WalkBefore i o.after) e k.after;
+        entries = subst (λ i. EntriesBefore i o.entries) e k.entries;
+        events = subst (λ i. EventsBefore i o.events) e k.events;
+      }
+
+  module _ (body : Frame → Operand → ℕ → Walk → walks.Out) (fs : List Frame) (base : ℕ) (frames : FramesBefore base fs)
+      (body_order : (f : Frame) (d : Operand) (n : ℕ) (w : Walk) → FramesBefore n (f ∷ fs) → IsBefore n d → WalkBefore n w → Orders n (body f d n w)) (l : ℕ) where
+    copies_order : (kind : walks.Kind) (b c : Operand) (temps : ℕ → Operand) (k n : ℕ) (w : Walk) → base ≤ n → ((i : ℕ) → IsBefore base (temps i)) → IsBefore n b → IsBefore n c → WalkBefore n w → Orders n (walks.walk_copies g body l kind b c temps k n w)
+    copies_order kind b c temps zero n w le ht hb hc h = record { order = tt; after = with_path_before n w F h tt; entries = tt; events = tt }
+    copies_order kind b c temps (suc k) n w le ht hb hc h =
+        let last = walks.is_last k in
+        let x = walks.count_steps last w.path b c in
+        let d = walks.count_name last c n in
+        let n0 = past n x in
+        let l0 = past_le n x in
+        let o = body (walks.copy_frame last b) d n0 (record w { temps = temps }) in
+        let n1 = past n0 o.steps in
+        let l1 = past_le n0 o.steps in
+        let et = walks.end_turn g kind d l w.slots n1 o.after in
+        let n2 = past n1 et.steps in
+        let l2 = past_le n1 et.steps in
+        let rest = walks.walk_copies g body l kind b c temps k n2 et.after in
+        let cn = count_order last w.path b c n h.path hb hc in
+        let hw = walk_up n n0 w l0 h in
+        let ho = body_order (walks.copy_frame last b) d n0 (record w { temps = temps }) (frame_before last b n0 fs (before_up n n0 b l0 hb) (frames_up base n0 fs (omega (arith, le, l0)) frames)) cn.1
+                (record { path = hw.path; temps = λ i. before_up base n0 (temps i) (omega (arith, le, l0)) (ht i); slots = hw.slots }) in
+        let he = turn_order kind d l w.slots n1 o.after (before_up n0 n1 d l1 cn.1) (slots_up n n1 w.slots (omega (arith, l0, l1)) h.slots) ho.after in
+        behind_order (w.path ∷ []) x n (walks.joined (walks.pair o.given rest.given) o (walks.joined walks.nothing et rest)) cn.0
+        (joined_orders (walks.pair o.given rest.given) n0 o (walks.joined walks.nothing et rest) ho
+            (joined_orders walks.nothing n1 et rest he (copies_order kind b c temps k n2 et.after (omega (arith, le, l0, l1, l2)) ht (before_up n n2 b (omega (arith, l0, l1, l2)) hb) (before_up n n2 c (omega (arith, l0, l1, l2)) hc) he.after)))
