@@ -12,3 +12,4 @@ pub mod Whole
 pub mod Givens
 pub mod Enters
 pub mod Solutions
+pub mod Orders
