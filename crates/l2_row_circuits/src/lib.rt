@@ -1,0 +1,6 @@
+//! Rows and rankings as circuits.
+#![tactic(auto)]
+
+mod rows;
+
+pub use rows::{form_word, lower_bit, row_bit};
