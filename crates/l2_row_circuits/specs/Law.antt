@@ -1,19 +1,45 @@
 -- What circuits of rows and rankings give.
-use Rattle.std.specs.Prelude.{◌≡◌, ℕ, ◌≤◌, ◌<◌, Bool, true, ℤ, pos, List, length, slice_index_or}
-use Rattle.l2_gates.specs.Gates.{Lit, Made, Bit}
+use Rattle.std.specs.Prelude.{◌≡◌, ℕ, ◌^◌, ◌≤◌, Bool, true, ℤ, pos, negsuc, ◌≤ℤ◌, Option, Some, None, List, [], ◌∷◌, length}
+use Rattle.l2_gates.specs.Gates.{Lit, Made}
 use Rattle.l2_gates.specs.Models.{Ok, Gives}
 use Rattle.l2_templates.specs.declared.form.Form.{Form}
 use Rattle.l2_templates.specs.declared.form.Row.{Row}
-use Rattle.l2_templates.specs.Forms.{row_value, variable, IsNumber, IsOver, row_holds}
+use Rattle.l2_templates.specs.Forms.{row_value, variable, IsNumber, IsOver, row_holds, lower_than}
 use Rattle.l2_circuit_laws.specs.Shows.{Shows, Gains}
-use Rattle.l2_row_circuits.specs.Rows.{wide, variable_word, form_word, row_bit}
+use Rattle.l2_row_circuits.specs.Rows.{wide, variable_word, form_word, row_bit, lower_bit}
 
--- the words show these values
+-- the words show these values, which are such that cells hold
 pub record AreShown (v : ℕ → Bool) (words : List (List Lit)) (values : List ℤ) : Type 0 where
   pub shows : (n : ℕ) → 1 ≤ n → n ≤ length values → Shows v wide (variable_word words n) (variable values n)
-  pub numbers : (n : ℕ) → IsNumber (variable values n)
+  pub numbers : (n : ℕ) → n ≤ length values → IsNumber (variable values n)
 
+-- a form over these variables; where it has one, its second sign is plus
+pub record IsProper (n : ℕ) (f : Form) : Type 0 where
+  pub over : IsOver n f
+  pub plain : f.second ≡ 0 → f.second_plus ≡ true
+
+-- the value of a form, exact
 abbrev pub FormsShow : Type 0
 FormsShow =
-    (v : ℕ → Bool) → v 0 ≡ true → (f : Form) (words : List (List Lit)) (values : List ℤ) (m : Made) → AreShown v words values → IsOver (length values) f → (f.second ≡ 0 → f.second_plus ≡ true)
+    (v : ℕ → Bool) → v 0 ≡ true → (f : Form) (words : List (List Lit)) (values : List ℤ) (m : Made) → AreShown v words values → IsProper (length values) f
     → Ok v (form_word f words m).made → Gains v m wide (form_word f words m).bits (row_value f values)
+
+-- from -2^64 - 1 to 2^64
+abbrev pub IsBound : Option ℤ → Type 0
+IsBound None = Unit {0}
+IsBound (Some b) = (negsuc (2 ^ 64) ≤ℤ b) × (b ≤ℤ pos (2 ^ 64))
+
+abbrev pub RowsAre : Type 0
+RowsAre =
+    (v : ℕ → Bool) → v 0 ≡ true → (r : Row) (words : List (List Lit)) (values : List ℤ) (m : Made) → AreShown v words values → IsProper (length values) r.form → IsBound r.bound
+    → Gives v m (row_holds r values) (row_bit r words m)
+
+abbrev pub AreProper : ℕ → List Form → Type 0
+AreProper n [] = Unit {0}
+AreProper n (f ∷ fs) = IsProper n f × AreProper n fs
+
+-- a ranking is lower afterwards
+abbrev pub RanksAre : Type 0
+RanksAre =
+    (v : ℕ → Bool) → v 0 ≡ true → (fs : List Form) (before after : List (List Lit)) (old new : List ℤ) (m : Made) → AreShown v before old → AreShown v after new
+    → AreProper (length old) fs → AreProper (length new) fs → Gives v m (lower_than fs old new) (lower_bit fs before after m)
