@@ -1,10 +1,10 @@
 -- The words of variables, and components of rankings.
-use Rattle.std.proofs.Common.{◌≡◌, ℕ, zero, suc, ◌+◌, ◌-◌, ◌<◌, List, [], ◌∷◌, length, get_or, drop, Option, Some, slice_get, refl, sym, ap, ◌∙◌, arith}
+use Rattle.std.proofs.Common.{◌≡◌, ℕ, zero, suc, ◌+◌, ◌-◌, ◌<◌, List, [], ◌∷◌, length, get_or, drop, Some, slice_get, sym, ap, ◌∙◌, arith}
 use Rattle.std.proofs.lemmas.List.{drop_more}
 use Rattle.std.specs.declared.vec.Vec.{Vec}
 use Rattle.std.specs.declared.alloc.Global.{Global}
 use Rattle.l2_cnf.specs.declared.lit.Lit as rust
-use Rattle.l2_gates.specs.Gates.{Lit, Made, Bit, literals_of}
+use Rattle.l2_gates.specs.Gates.{Lit, Made, literals_of}
 use Rattle.l2_templates.specs.declared.form.Form.{Form}
 use Rattle.l2_row_circuits.specs.Words.{words_of}
 use Rattle.l2_row_circuits.specs.Rows.{variable_word, component_bit, lower_bit}

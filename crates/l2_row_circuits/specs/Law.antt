@@ -1,10 +1,11 @@
 -- What circuits of rows and rankings give.
 use Rattle.std.specs.Prelude.{◌≡◌, ℕ, ◌^◌, ◌≤◌, Bool, true, ℤ, pos, negsuc, ◌≤ℤ◌, Option, Some, None, List, [], ◌∷◌, length}
 use Rattle.l2_gates.specs.Gates.{Lit, Made}
-use Rattle.l2_gates.specs.Models.{Ok, Gives}
+use Rattle.l2_gates.specs.Models.{Ok, Gives, AllBelow, Sound, Makes}
 use Rattle.l2_templates.specs.declared.form.Form.{Form}
 use Rattle.l2_templates.specs.declared.form.Row.{Row}
 use Rattle.l2_templates.specs.Forms.{row_value, variable, IsNumber, IsOver, row_holds, lower_than}
+use Rattle.l2_circuit_laws.specs.Making.{MakesWord}
 use Rattle.l2_circuit_laws.specs.Shows.{Shows, Gains}
 use Rattle.l2_row_circuits.specs.Rows.{wide, variable_word, form_word, row_bit, lower_bit}
 
@@ -43,3 +44,17 @@ abbrev pub RanksAre : Type 0
 RanksAre =
     (v : ℕ → Bool) → v 0 ≡ true → (fs : List Form) (before after : List (List Lit)) (old new : List ℤ) (m : Made) → AreShown v before old → AreShown v after new
     → AreProper (length old) fs → AreProper (length new) fs → Gives v m (lower_than fs old new) (lower_bit fs before after m)
+
+-- ---- what is made
+
+-- the literals of the variables' words are there
+abbrev pub WordsBelow : ℕ → List (List Lit) → Type 0
+WordsBelow n words = (i : ℕ) → AllBelow n (variable_word words i)
+
+pub record RowsMake (m : Made) : Type 0 where
+  pub forms : (f : Form) (words : List (List Lit)) → WordsBelow m.next words → MakesWord m (form_word f words m)
+  pub rows : (r : Row) (words : List (List Lit)) → WordsBelow m.next words → Makes m (row_bit r words m)
+  pub ranks : (fs : List Form) (before after : List (List Lit)) → WordsBelow m.next before → WordsBelow m.next after → Makes m (lower_bit fs before after m)
+
+abbrev pub RowsAreMade : Type 0
+RowsAreMade = (m : Made) → Sound m → RowsMake m

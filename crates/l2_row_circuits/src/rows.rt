@@ -44,12 +44,7 @@ fn signed_word(
     }
 }
 
-fn sum_word(
-    alloc: Global,
-    gates: &mut Gates,
-    a: &[Lit],
-    b: &[Lit],
-) -> Result<Vec<Lit>, AllocError>
+fn sum_word(alloc: Global, gates: &mut Gates, a: &[Lit], b: &[Lit]) -> Result<Vec<Lit>, AllocError>
     ensures bits { IfOk result (λ w. literals_of w.items ≡ (sum_word (literals_of a.now) (literals_of b.now) gates.old).bits) }
     ensures made { OnOk result (gates.new ≡ (sum_word (literals_of a.now) (literals_of b.now) gates.old).made) }
 {

@@ -1,5 +1,5 @@
 use Rattle.std.proofs.Common.{◌≡◌, ◌-◌, drop, length}
-use Rattle.l2_gates.specs.Gates.{Bit, literal_of}
+use Rattle.l2_gates.specs.Gates.{literal_of}
 use Rattle.l2_row_circuits.specs.Words.{words_of}
 use Rattle.l2_row_circuits.specs.Rows.{lower_bit}
 use Rattle.l2_row_circuits.proofs.rows.lower_bit.Given as goal

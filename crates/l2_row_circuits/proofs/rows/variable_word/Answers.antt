@@ -1,4 +1,4 @@
-use Rattle.std.proofs.Common.{rules, ◌≡◌, ℕ, suc, ◌-◌, ap, ◌∙◌, arith}
+use Rattle.std.proofs.Common.{◌≡◌, suc, ◌-◌, ap, ◌∙◌, arith}
 use Rattle.l2_gates.specs.Gates.{literals_of}
 use Rattle.l2_row_circuits.proofs.Words.{word_at}
 use Rattle.l2_row_circuits.proofs.rows.variable_word.Goals as goal
