@@ -179,7 +179,12 @@ const ENOUGH: usize = 1_000_000;
 
 /// The graph of what inclusions ask, by the present sets of pointers. Beside the nodes of the rows it has two for each set. It
 /// has an edge for each copy; of the loads and stores, from the first one on, it has so many as are enough.
-pub fn build(alloc: Global, inclusions: &[Inclusion], rows: &Rows, first: usize) -> Result<Graph, AllocError>
+pub fn build(
+    alloc: Global,
+    inclusions: &[Inclusion],
+    rows: &Rows,
+    first: usize,
+) -> Result<Graph, AllocError>
     ensures { IfOk result (λ g. AreDue inclusions.now rows.now g) }
 {
     let sets = rows.sets() + 1;

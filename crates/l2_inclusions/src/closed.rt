@@ -140,7 +140,11 @@ fn keeps(rows: &Rows, pairs: &mut Vec<Pair>, inclusion: Inclusion) -> bool
 }
 
 /// The first inclusion that the rows don't keep, or None where they are closed.
-pub fn first_open(alloc: Global, inclusions: &[Inclusion], rows: &Rows) -> Result<Option<usize>, AllocError>
+pub fn first_open(
+    alloc: Global,
+    inclusions: &[Inclusion],
+    rows: &Rows,
+) -> Result<Option<usize>, AllocError>
     ensures { IfOk result (λ o. o ≡ None → IsClosed (set_at rows.now) inclusions.now) }
 {
     let mut pairs = no_pairs(alloc, PAIRS)?;

@@ -33,7 +33,12 @@ fn take(
 }
 
 // Lets members go as far as the present sets of pointers say, for the loads and stores from the first one on.
-fn round(alloc: Global, inclusions: &[Inclusion], first: usize, rows: &mut Rows) -> Result<(), AllocError>
+fn round(
+    alloc: Global,
+    inclusions: &[Inclusion],
+    first: usize,
+    rows: &mut Rows,
+) -> Result<(), AllocError>
     ensures { OnOk result (AreForced inclusions.now rows.old → AreForced inclusions.now rows.new) }
 {
     let nodes = rows.nodes();
