@@ -1,15 +1,13 @@
 -- The code of typed expressions is typed.
-use Rattle.std.proofs.Common.{◌≡◌, ℕ, zero, suc, ◌+◌, ◌<◌, ◌≤◌, ℤ, pos, negsuc, neg_ℤ, ◌≤ℤ◌, ◌^◌, ◌-◌, Bool, true, false, not, List, [], ◌∷◌, ◌++◌, length, Option, Some, None, refl, sym, ap, subst, ◌∙◌, arith, ◌⊎◌, inl, inr}
+use Rattle.std.proofs.Common.{◌≡◌, ℕ, zero, suc, ◌<◌, ◌≤◌, ℤ, pos, negsuc, neg_ℤ, ◌≤ℤ◌, ◌^◌, ◌-◌, Bool, true, false, List, [], ◌∷◌, length, Option, Some, None, refl, sym, subst, arith, inl, inr}
 use Rattle.std.specs.Prelude.{◌&&◌, if◌then◌else◌, slice_get}
 use Rattle.std.proofs.lemmas.Int.{ints}
-use Rattle.std.specs.Ordering.{int_eq}
 use Rattle.l2_bits.proofs.Bounds.{value_small, signed_small}
 use Rattle.l2_bits.specs.declared.types.Ty.{Ty}
 use Rattle.l2_bits.specs.Types.{int_type}
 use Rattle.l2_bits.specs.Values.{IsValue}
 use Rattle.l2_bits.specs.declared.operators.Op.{Op}
 use Rattle.l2_bits.specs.declared.operators.Op.TheVariants as arithmetic
-use Rattle.l2_bits.specs.Operators.{overflows}
 use Rattle.l2_runs.specs.declared.cells.CellType.{CellType}
 use Rattle.l2_runs.specs.declared.cells.CellType.TheVariants.{Integer, Pointer}
 use Rattle.l2_runs.specs.declared.cells.CellValue.{CellValue}
@@ -28,7 +26,7 @@ use Rattle.l2_program.specs.Checked as tree
 use Rattle.l2_program.specs.Checked.{TypedTree}
 use Rattle.l2_program.specs.Types.{type_of, is_computing, is_arithmetic, given}
 use Rattle.l2_meaning.specs.Lawful.{Listing, IsTyped, IsInteger, IsOfKind, HasCheck, lists_overflow, HasChecks}
-use Rattle.l2_meaning.proofs.Numbers.{zero_value, binary_value}
+use Rattle.l2_meaning.proofs.Numbers.{zero_value}
 use Rattle.l2_code.specs.declared.action.Operator.{Operator}
 use Rattle.l2_code.specs.declared.action.Operator.TheVariants as operator
 use Rattle.l2_code.specs.declared.action.Operand.{Operand}
@@ -36,11 +34,10 @@ use Rattle.l2_code.specs.declared.action.Operand.TheVariants.{Constant, Temp}
 use Rattle.l2_code.specs.declared.action.Test.TheVariants as test
 use Rattle.l2_code.specs.declared.action.Computation.TheVariants.{Numbers as Compute_Numbers, Convert, Passes}
 use Rattle.l2_code.specs.declared.action.Action.TheVariants.{Check, Choice, Read, Write}
-use Rattle.l2_code.specs.Trees.{Nodes, none, more, join}
 use Rattle.l2_code.specs.Values.{same_type}
 use Rattle.l2_code.specs.WellFormed.{Names, Scope, IsNumber, IsConstant, IsOperand, IsBit, IsTruth, IsWhole, value_of}
 use Rattle.l2_code.specs.WellFormed as code
-use Rattle.l2_lower.specs.Emitting.{only, Emitted, Part, part, after, behind, nothing, result, checked, computed, zero_number, cell, overflow_check, unary_code, binary_code, conversion, truth_code, expression, condition}
+use Rattle.l2_lower.specs.Emitting.{only, Emitted, Part, after, behind, nothing, checked, computed, zero_number, cell, overflow_check, unary_code, binary_code, conversion, truth_code, expression, condition}
 use Rattle.l2_lower.specs.Operands.{IsOperandOf}
 use Rattle.l2_lower.proofs.Computing.{IsBelow, below_more}
 use Rattle.l2_lower.proofs.Converted.{same_types}

@@ -1,5 +1,5 @@
 -- The code of a lawful program is never stuck.
-use Rattle.std.proofs.Common.{◌≡◌, ℕ, zero, suc, ◌+◌, ◌<◌, ◌≤◌, ℤ, pos, negsuc, Bool, true, false, List, [], ◌∷◌, length, Option, Some, None, refl, sym, ap, subst, ◌∙◌, arith, ◌⊎◌, inl, inr}
+use Rattle.std.proofs.Common.{◌≡◌, ℕ, zero, suc, ◌+◌, ◌<◌, ◌≤◌, ℤ, pos, negsuc, Bool, true, false, List, [], ◌∷◌, length, Option, Some, None, refl, sym, subst, arith, inl, inr}
 use Rattle.std.specs.Prelude.{nat_le, ◌==◌, IfSome, if◌then◌else◌}
 use Rattle.std.specs.Ordering.{int_eq}
 use Rattle.std.proofs.lemmas.Bool.Decides.{nat_tests}
@@ -9,15 +9,13 @@ use Rattle.l2_runs.specs.declared.cells.CellType.{CellType}
 use Rattle.l2_runs.specs.declared.cells.CellType.TheVariants.{Integer, Pointer}
 use Rattle.l2_runs.specs.declared.cells.CellValue.{CellValue}
 use Rattle.l2_runs.specs.declared.cells.CellValue.TheVariants.{Number, Null, Invalid, At}
-use Rattle.l2_runs.specs.declared.member.Member.{Member}
 use Rattle.l2_runs.specs.declared.member.Member.TheVariants as member
-use Rattle.l2_runs.specs.declared.outcome.Outcome.{Outcome}
-use Rattle.l2_runs.specs.declared.outcome.Outcome.TheVariants.{Stopped, OutOfChoices}
+use Rattle.l2_runs.specs.declared.outcome.Outcome.TheVariants.{Stopped}
 use Rattle.l2_runs.specs.Numbers.{at_number, numbers_where}
 use Rattle.l2_runs.specs.Store.{Store}
 use Rattle.l2_runs.specs.Fits.{Layout, CellFits, StoreFits}
 use Rattle.l2_runs.specs.Members.{is_in}
-use Rattle.l2_runs.specs.Runs.{State, End, Over, Fallen, Result, Go, Halt, Run, and_then, done, stop, either, choose, write}
+use Rattle.l2_runs.specs.Runs.{End, Over, Fallen, Result, Go, Halt, Run, and_then, done, stop, either, choose}
 use Rattle.l2_runs.specs.Loops as loops
 use Rattle.l2_runs.specs.Loops.{Limit, Tests}
 use Rattle.l2_runs.specs.Back.{where_so, pointer_of, on_member, any_value, scatter_cells, scatter, back}
@@ -26,7 +24,6 @@ use Rattle.l2_program.specs.Names.{loops_in}
 use Rattle.l2_program.specs.Programs.{ProgramTree}
 use Rattle.l2_program.specs.declared.program.LoopInfo.{LoopInfo}
 use Rattle.l2_meaning.specs.Execution.{cells_of}
-use Rattle.l2_meaning.specs.Execution as meaning
 use Rattle.l2_meaning.specs.Lawful.{IsLawful, IsIn}
 use Rattle.l2_meaning.proofs.Starts as starts
 use Rattle.l2_code.specs.declared.code.CodeObject.{CodeObject}
@@ -116,19 +113,16 @@ module _ (cells : Layout) (f : Family) (over : (n o : ℕ) → f.object n (membe
 
 -- ---- numbers
 
+with_first : (P : ℕ → Type 0) (n : ℕ) (b : Bool) (ns : List ℕ) → P n → AllOf P ns → AllOf P (if b then n ∷ ns else ns)
+with_first P n true ns p q = (p, q)
+with_first P n false ns p q = q
+
 -- what holds of each number from n on holds of those that pass a test
 pub numbers_all : {A : Type 0} (P : ℕ → Type 0) (f : A → Bool) (n : ℕ) (xs : List A) → ((i : ℕ) → i < length xs → P (n + i)) → AllOf P (numbers_where f n xs)
 numbers_all P f n [] h = tt
-numbers_all P f n (x ∷ xs) h = go (f x) where
-  first : P n
-  first = subst P (omega arith) (h 0 (omega arith))
-
-  rest : AllOf P (numbers_where f (suc n) xs)
-  rest = numbers_all P f (suc n) xs (λ i l. let e : n + (i + 1) ≡ suc n + i = omega arith in subst P e (h (i + 1) (omega arith)))
-
-  go : (b : Bool) → AllOf P (if b then n ∷ numbers_where f (suc n) xs else numbers_where f (suc n) xs)
-  go true = (first, rest)
-  go false = rest
+numbers_all P f n (x ∷ xs) h =
+    with_first P n (f x) (numbers_where f (suc n) xs) (let e : n + 0 ≡ n = omega arith in subst P e (h 0 (omega arith)))
+    (numbers_all P f (suc n) xs (λ i l. let e : n + (i + 1) ≡ suc n + i = omega arith in subst P e (h (i + 1) (omega arith))))
 
 pub all_in : (P : ℕ → Type 0) (xs : List ℕ) (l : ℕ) → AllOf P xs → IsIn l xs → P l
 all_in P [] l h k = absurd k
@@ -174,9 +168,9 @@ module _ (p : ProgramTree) (lawful : IsLawful p) (f : Family) (resolved : IsReso
   loops_fine l h =
       let main = lawful.functions lawful.main lawful.main_function lawful.has_main in
       fine l (all_in (λ n. 1 ≤ n) (loops_in lawful.main_function.body) l (subst (λ ls. AllOf (λ n. 1 ≤ n) ls) main.loops (numbers_all (λ n. 1 ≤ n) (λ (l : LoopInfo). l.function == lawful.main) 1 p.loops (λ i q. omega arith))) h) where
-    fine : (l : ℕ) → 1 ≤ l → AreFine (cells_of p) IsUnstuck l
-    fine zero q = absurd (omega arith)
-    fine (suc l) q = record { over = λ o. tt; fallen = λ row. tt }
+        fine : (l : ℕ) → 1 ≤ l → AreFine (cells_of p) IsUnstuck l
+        fine zero q = absurd (omega arith)
+        fine (suc l) q = record { over = λ o. tt; fallen = λ row. tt }
 
   start_fits : (choices : List ℤ) (turns : ℕ) → StoreFits (cells_of p) (start (code p) choices turns).store
   start_fits choices turns = subst (λ store. StoreFits (cells_of p) store) (sym (start_same p)) (starts.first_fits p lawful)

@@ -1,5 +1,5 @@
 -- The code of typed statements is typed.
-use Rattle.std.proofs.Common.{◌≡◌, ℕ, zero, suc, ◌+◌, ◌<◌, ◌≤◌, Bool, List, [], ◌∷◌, ◌++◌, length, Option, Some, None, refl, sym, ap, subst, ◌∙◌, arith, ◌⊎◌, inl, inr}
+use Rattle.std.proofs.Common.{◌≡◌, ℕ, zero, suc, ◌<◌, ◌≤◌, List, [], ◌∷◌, ◌++◌, length, refl, sym, subst, ◌∙◌, arith}
 use Rattle.l2_runs.specs.declared.cells.CellType.{CellType}
 use Rattle.l2_runs.specs.declared.cells.CellType.TheVariants.{Integer, Pointer}
 use Rattle.l2_runs.specs.declared.cells.CellValue.TheVariants.{Invalid}
@@ -15,12 +15,12 @@ use Rattle.l2_meaning.specs.Lawful.{Listing, IsTyped, IsInteger, HasChecks, Stat
 use Rattle.l2_code.specs.declared.action.Action.TheVariants as action
 use Rattle.l2_code.specs.declared.action.Operand.{Operand}
 use Rattle.l2_code.specs.declared.action.Operand.TheVariants.{Constant, Temp}
-use Rattle.l2_code.specs.Trees.{Node, Do, Block, Loop, Nodes, none, more, join}
+use Rattle.l2_code.specs.Trees.{Do, Nodes, none, more, join}
 use Rattle.l2_code.specs.WellFormed.{Scope, IsNumber, All, IsOperand, value_of}
 use Rattle.l2_code.specs.WellFormed as code
-use Rattle.l2_lower.specs.Emitting.{only, cell, Emitted, Part, part, expression, condition}
-use Rattle.l2_lower.specs.Statements.{behind, using, followed, guard, as_block, as_loop, first_side, filled, declaration, initialised, deads, statement, statements}
-use Rattle.l2_lower.proofs.Typing.{all_behind, IsFrom, from_grows, join_typed, join_jumps, join_numbers, join_behind, Sound, Given, Tests, OperandIs, join_sound, none_sound, only_sound, result_sound, result_known}
+use Rattle.l2_lower.specs.Emitting.{only, cell, Part, part, expression, condition}
+use Rattle.l2_lower.specs.Statements.{followed, guard, as_block, as_loop, first_side, filled, declaration, initialised, deads, statement, statements}
+use Rattle.l2_lower.proofs.Typing.{all_behind, IsFrom, from_grows, join_typed, join_jumps, join_numbers, join_behind, Sound, OperandIs, join_sound, none_sound, only_sound, result_sound, result_known}
 use Rattle.l2_lower.proofs.ExpressionTypes.{names, expression_given, condition_tests}
 
 pub all_left : (P : ℕ → Type 0) (xs ys : List ℕ) → All P (xs ++ ys) → All P xs

@@ -1,20 +1,18 @@
 -- Code is typed, its temporaries are numbered in order, and its jumps leave blocks that are there: for items one after another.
-use Rattle.std.proofs.Common.{◌≡◌, ℕ, zero, suc, ◌+◌, ◌-◌, ◌<◌, ◌≤◌, Bool, true, false, List, [], ◌∷◌, ◌++◌, Option, Some, None, refl, sym, ap, subst, ◌∙◌, arith}
-use Rattle.std.specs.Prelude.{nat_eq, ◌==◌, if◌then◌else◌}
+use Rattle.std.proofs.Common.{◌≡◌, ℕ, zero, suc, ◌-◌, ◌<◌, ◌≤◌, Bool, true, false, List, [], ◌∷◌, ◌++◌, Some, refl, sym, ap, subst, ◌∙◌, arith}
+use Rattle.std.specs.Prelude.{if◌then◌else◌}
 use Rattle.std.proofs.lemmas.Bool.Decides.{nat_tests}
 use Rattle.l2_runs.specs.declared.cells.CellType.{CellType}
-use Rattle.l2_runs.specs.declared.cells.CellValue.{CellValue}
-use Rattle.l2_runs.specs.Fits.{Layout}
 use Rattle.l2_code.specs.declared.action.Action.{Action}
 use Rattle.l2_code.specs.declared.action.Action.TheVariants.{Compute}
 use Rattle.l2_code.specs.declared.action.Computation.{Computation}
 use Rattle.l2_code.specs.declared.action.Operand.{Operand}
 use Rattle.l2_code.specs.declared.action.Operand.TheVariants.{Constant, Temp}
-use Rattle.l2_code.specs.Trees.{Node, Do, Block, Loop, Nodes, none, more, join}
+use Rattle.l2_code.specs.Trees.{Nodes, none, more, join}
 use Rattle.l2_code.specs.Values.{no_temps, compute}
-use Rattle.l2_code.specs.WellFormed.{Names, Scope, Known, with_known, IsConstant, IsOperand, IsOfType, IsBit, IsTruth, IsKnownTruth, IsTypedComputation, IsTypedAction, computation_gives, behind, behind_node, IsTypedNode, AreTyped, JumpsOut, HasJumps, HaveJumps, result_of, node_results, results, count_from}
+use Rattle.l2_code.specs.WellFormed.{Names, Scope, Known, with_known, IsConstant, IsOperand, IsOfType, IsBit, IsTruth, IsKnownTruth, IsTypedComputation, IsTypedAction, computation_gives, behind, behind_node, AreTyped, JumpsOut, HaveJumps, result_of, node_results, results, count_from}
 use Rattle.l2_lower.specs.Emitting.{only, Emitted, operands_of, are_constant, or_zero, no_types, nothing, result, computed}
-use Rattle.l2_lower.proofs.Computing.{IsBelow, below_more}
+use Rattle.l2_lower.proofs.Computing.{IsBelow}
 
 -- what may be read behind items
 abbrev pub all_behind : Scope → Nodes → Scope

@@ -9,6 +9,7 @@ ghost use Rattle.l2_meaning.specs.Execution.{cells_of, exec, run_program};
 ghost use Rattle.l2_meaning.specs.Execution as meaning;
 ghost use Rattle.l2_meaning.specs.Lawful.{IsLawful, IsCheckOf};
 ghost use Rattle.l2_code.specs.Modes.{types_of, first_store, run_code};
+ghost use Rattle.l2_code.specs.WellFormed.{IsWellFormed};
 ghost use Rattle.l2_lower.specs.Alike.{Agree, exec_code};
 ghost use Rattle.l2_lower.specs.Code.{code};
 
@@ -20,4 +21,9 @@ pub fn code_does_what_its_program_does()
     ensures runs { (p : ProgramTree) → IsLawful p → (limit : Limit) (tests : Tests) → LimitKeeps (cells_of p) (IsCheckOf p) limit → (s : State) → StoreFits (cells_of p) s.store → Agree (run_program p limit tests s) (run_code (code p) limit tests s) }
     ensures start { (p : ProgramTree) → first_store (code p) ≡ meaning.first_store p }
     ensures cells { (p : ProgramTree) → (types_of (code p)).objects ≡ cells_of p }
+{}
+
+/// The code of a lawful program is well formed.
+pub fn code_is_well_formed()
+    ensures { (p : ProgramTree) → IsLawful p → IsWellFormed (code p) }
 {}

@@ -4,6 +4,7 @@ ghost use Rattle.l2_meaning.specs.Execution.{cells_of, main_among};
 ghost use Rattle.l2_meaning.specs.Lawful.{IsLawful};
 ghost use Rattle.l2_code.specs.Trees.{items_of, code_of};
 ghost use Rattle.l2_code.specs.Sizes.{instructions};
+ghost use Rattle.l2_code.specs.WellFormed.{IsWellFormed};
 ghost use Rattle.l2_lower.specs.declared.error.LowerError.TheVariants.{NoMemory};
 ghost use Rattle.l2_lower.specs.Code.{code_objects, code_check, code_loop, main_code, code};
 ghost use Rattle.l2_lower.specs.Output.{most_instructions, output, Emits, Anything};
@@ -48,8 +49,8 @@ fn assembled(alloc: Global, p: &Program, temps: u32, items: Vec<Item>) -> Result
     })
 }
 
-/// The code of a program.
-pub fn lower(alloc: Global, program: &Program) -> Result<Code, LowerError>
+/// The code of a program, by its definition.
+fn lowered(alloc: Global, program: &Program) -> Result<Code, LowerError>
     requires { IsLawful (program_tree program.now) }
     ensures ok { IfOk result (λ c. code_of c ≡ code (program_tree program.now)) }
     ensures few { IfOk result (λ c. instructions (code (program_tree program.now)).body ≤ most_instructions) }
@@ -60,4 +61,15 @@ pub fn lower(alloc: Global, program: &Program) -> Result<Code, LowerError>
     program_code(alloc, program, &mut items, &mut at)?;
     let code = assembled(alloc, program, at.temps(), items)?;
     Ok(code)
+}
+
+/// The code of a program.
+pub fn lower(alloc: Global, program: &Program) -> Result<Code, LowerError>
+    requires { IsLawful (program_tree program.now) }
+    ensures ok { IfOk result (λ c. code_of c ≡ code (program_tree program.now)) }
+    ensures well_formed { IfOk result (λ c. IsWellFormed (code_of c)) }
+    ensures few { IfOk result (λ c. instructions (code (program_tree program.now)).body ≤ most_instructions) }
+    ensures too_large { IfErr result (λ e. e ≢ NoMemory → most_instructions < instructions (code (program_tree program.now)).body) }
+{
+    lowered(alloc, program)
 }
