@@ -20,7 +20,8 @@ use Rattle.l2_runs.specs.Fits.{Layout}
 use Rattle.l2_program.specs.Checked as tree
 use Rattle.l2_program.specs.Checked.{TypedTree, CheckedTree, CheckedTrees}
 use Rattle.l2_program.specs.Types.{type_of}
-use Rattle.l2_meaning.specs.Lawful.{IsTyped, IsInteger, IsTypedStatement, AreTyped}
+use Rattle.l2_meaning.specs.Lawful.{IsTyped, IsInteger, IsTypedStatement, AreTyped, IsScopedStatement, AreScoped}
+use Rattle.l2_runs.proofs.Stores.{from, from_next}
 use Rattle.l2_meaning.specs.Pointing.{IsTakenIn, TakeIn, StatementIsTakenIn, AreTakenIn, is_same}
 use Rattle.l2_meaning.specs.Pointing as pointing
 use Rattle.l2_meaning.specs.Scopes as scopes
@@ -39,6 +40,7 @@ use Rattle.l2_code.specs.Values.{no_temps, same_type, as_number, on_numbers, con
 use Rattle.l2_code.specs.Sets.{Family, may_be, IsClosedResult, IsClosedAction, IsClosedNode, AreClosed}
 use Rattle.l2_lower.specs.Emitting.{only, cell, Emitted, Part, part, after, behind, nothing, result, checked, operands_of, are_constant, or_zero, no_types, computed, zero_number, overflow_check, unary_code, binary_code, conversion, truth_code, expression, condition}
 use Rattle.l2_lower.specs.Statements.{guard, as_block, as_loop, first_side, followed, filled, declaration, initialised, deads, statement, statements}
+use Rattle.l2_lower.proofs.Converted.{same_types}
 use Rattle.l2_lower.proofs.Computing.{IsBelow, below_more}
 
 -- sets of temporaries
@@ -242,3 +244,211 @@ module _ (sets : pointing.Sets) where
   binary_bounded n acc binary_operator.GreaterEqual ty c a b set = numbers_bounded n acc operator.Le ty b a set
   binary_bounded n acc binary_operator.Equal ty c a b set = numbers_bounded n acc operator.Eq ty a b set
   binary_bounded n acc binary_operator.NotEqual ty c a b set = numbers_bounded n acc operator.Ne ty a b set
+
+  -- ---- expressions
+
+  same_self : (ty : Ty) → is_same ty (Integer ty ∷ []) ≡ true
+  same_self ty = (λ i. same_width ty.width i && (if ty.signed then ty.signed else not ty.signed)) ∙ signs ty.signed where
+    same_width : (n : ℕ) → (n == n) ≡ true
+    same_width n = grind arith
+
+    signs : (s : Bool) → (if s then s else not s) ≡ true
+    signs true = refl
+    signs false = refl
+
+  and_true : (x y : Bool) → x ≡ true → y ≡ true → (x && y) ≡ true
+  and_true true true e d = refl
+  and_true true false e d = cc
+  and_true false y e d = cc
+
+  conversion_bounded : (n : ℕ) (acc : Temps) (types : List CellType) (to : Ty) (a : Operand) (set : Member → Bool) → IsInteger types → Within (may_of acc a) set → IsBelow n a → Bounded (λ m. is_same to types && set m) (conversion n types to a) n acc
+  conversion_bounded n acc [] to a set p h b = absurd p
+  conversion_bounded n acc (Integer from ∷ []) to a set p h b = go (same_type (Integer to) (Integer from)) refl where
+    go : (x : Bool) → same_type (Integer to) (Integer from) ≡ x → Bounded (λ m. is_same to (Integer from ∷ []) && set m) (if x && true then nothing n a else computed n (Convert to a)) n acc
+    go true e = record {
+      closing = none_closing n acc;
+      bound = λ m q. and_true (is_same to (Integer from ∷ [])) (set m) (subst (λ t. is_same t (Integer from ∷ []) ≡ true) (sym (same_types to from e)) (same_self from)) (h m q);
+      below = b;
+    }
+    go false e = computed_bounded n acc (Convert to a) (λ m. is_same to (Integer from ∷ []) && set m) (λ temps. tt) (quiet_convert n to a)
+  conversion_bounded n acc (Pointer ∷ []) to a set p h b = absurd p
+  conversion_bounded n acc (t ∷ u ∷ types) to a set p h b = absurd p
+
+  truth_bounded : (n : ℕ) (acc : Temps) (types : List CellType) (a : Operand) → IsInteger types → Bounded nowhere (truth_code n types a) n acc
+  truth_bounded n acc [] a p = absurd p
+  truth_bounded n acc (Integer ty ∷ []) a p = numbers_bounded n acc operator.Ne ty a zero_number nowhere
+  truth_bounded n acc (Pointer ∷ []) a p = absurd p
+  truth_bounded n acc (t ∷ u ∷ types) a p = absurd p
+
+  checked_sets : (c : ℕ) (a : Operand) (acc : Temps) → nodes_sets (checked c a) acc ≡ acc
+  checked_sets zero a acc = refl
+  checked_sets (suc c) a acc = refl
+
+  -- what an operand may be stays, where temporaries keep their sets
+  operand_may : (temps acc : Temps) (n : ℕ) (a : Operand) (set : Member → Bool) → IsBelow n a → ((i : ℕ) → i < n → temps i ≡ acc i) → Within (may_of acc a) set → Within (may_be (fam temps) a) set
+  operand_may temps acc n (Constant v) set b e h = h
+  operand_may temps acc n (Temp j) set b e h = subst (λ s. Within s set) (sym (e j b)) h
+
+  -- what is written to an object that takes it in
+  write_closing : (n : ℕ) (acc : Temps) (ty : CellType) (o f : ℕ) (a : Operand) → IsBelow n a → Within (may_of acc a) (sets o) → Closing n acc (only (action.Write ty (cell o f) a)) n
+  write_closing n acc ty o f a b h =
+      only_closing n acc (action.Write ty (cell o f) a) refl
+      (λ temps e p q. subst (λ x. Within (may_be (fam temps) a) (sets x)) (same_object o p q) (operand_may temps acc n a (sets o) b e h))
+
+  within_trans : (a b c : Member → Bool) → Within a b → Within b c → Within a c
+  within_trans a b c h k m e = k m (h m e)
+
+  module _ (cells : Layout) where
+    expression_bounded : (e : TypedTree) → IsTyped cells e → IsTakenIn sets e → (n : ℕ) (acc : Temps) → Bounded (pointing.may_be sets e) (expression n e) n acc
+    expression_bounded (tree.Constant ty v) h t n acc = record { closing = none_closing n acc; bound = λ m e. e; below = tt }
+    expression_bounded (tree.Choice ty) h t n acc = record {
+      closing = result_closing n acc (action.Choice n ty) nowhere refl (λ temps e. tt);
+      bound = subst (λ s. Within s (pointing.may_be sets (tree.Choice ty))) (sym (set_same acc n nowhere)) (λ m e. e);
+      below = omega arith;
+    }
+    expression_bounded (tree.Read ty (tree.Object o)) h t n acc = record {
+      closing = result_closing n acc (action.Read n ty (cell o 0)) (sets o) refl (λ temps e p q. subst (λ s. Within (sets p) s) (sym e) (subst (λ x. Within (sets p) (sets x)) (sym (same_object o p q)) (λ m z. z)));
+      bound = subst (λ s. Within s (sets o)) (sym (set_same acc n (sets o))) (λ m e. e);
+      below = omega arith;
+    }
+    expression_bounded (tree.Unary op ty c e) (h, is) t n acc =
+        let x = expression n e in
+        behind_bounded (pointing.may_be sets e) (pointing.may_be sets (tree.Unary op ty c e)) x (λ m a. unary_code m op ty c a) n acc (expression_bounded e h t n acc) (unary_bounded x.next (nodes_sets x.nodes acc) op ty c x.operand _)
+    expression_bounded (tree.Binary op ty c x y) (h, is, h', is') (t, t') n acc =
+        let a = expression n x in
+        let b = expression a.next y in
+        let later = nodes_sets a.nodes acc in
+        behind_bounded (pointing.may_be sets x) (pointing.may_be sets (tree.Binary op ty c x y)) a (λ m p. behind (expression m y) (λ j q. binary_code j op ty c p q)) n acc (expression_bounded x h t n acc)
+        (behind_bounded (pointing.may_be sets y) (pointing.may_be sets (tree.Binary op ty c x y)) b (λ j q. binary_code j op ty c a.operand q) a.next later (expression_bounded y h' t' a.next later) (binary_bounded b.next (nodes_sets b.nodes later) op ty c a.operand b.operand _))
+    expression_bounded (tree.Convert ty e) (h, is) t n acc =
+        let x = expression n e in
+        let w = expression_bounded e h t n acc in
+        behind_bounded (pointing.may_be sets e) (pointing.may_be sets (tree.Convert ty e)) x (λ m a. conversion m (type_of e) ty a) n acc w (conversion_bounded x.next (nodes_sets x.nodes acc) (type_of e) ty x.operand (pointing.may_be sets e) is w.bound w.below)
+    expression_bounded (tree.Assign ty (tree.Object o) e) (is, h, is') (t, in') n acc =
+        let x = expression n e in
+        let later = nodes_sets x.nodes acc in
+        let w = expression_bounded e h t n acc in
+        behind_bounded (pointing.may_be sets e) (pointing.may_be sets e) x (λ m a. record { nodes = only (action.Write ty (cell o 0) a); operand = a; next = m }) n acc w
+        (record { closing = write_closing x.next later ty o 0 x.operand w.below (within_trans (may_of later x.operand) (pointing.may_be sets e) (sets o) w.bound in'); bound = w.bound; below = w.below })
+    expression_bounded (tree.Assert c e) (h, is) t n acc =
+        let x = expression n e in
+        let y = condition n e in
+        let last = checked c y.operand in
+        let k = behind_bounded (pointing.may_be sets e) nowhere x (λ m a. truth_code m (type_of e) a) n acc (expression_bounded e h t n acc) (truth_bounded x.next (nodes_sets x.nodes acc) (type_of e) x.operand is) in
+        record {
+          closing = join_closing n y.next y.next acc y.nodes last k.closing (checked_closing c y.next (nodes_sets y.nodes acc) y.operand);
+          bound = subst (λ s. Within (may_of s y.operand) nowhere) (sym (join_sets y.nodes last acc ∙ checked_sets c y.operand (nodes_sets y.nodes acc))) k.bound;
+          below = k.below;
+        }
+
+    condition_closing : (e : TypedTree) → IsTyped cells e → IsInteger (type_of e) → IsTakenIn sets e → (n : ℕ) (acc : Temps) → Closing n acc (condition n e).nodes (condition n e).next
+    condition_closing e h is t n acc =
+        let x = expression n e in
+        (behind_bounded (pointing.may_be sets e) nowhere x (λ m a. truth_code m (type_of e) a) n acc (expression_bounded e h t n acc) (truth_bounded x.next (nodes_sets x.nodes acc) (type_of e) x.operand is)).closing
+
+    -- ---- declarations
+
+    deads_closing : (n : ℕ) (acc : Temps) (os : List ℕ) → Closing n acc (deads os) n
+    deads_closing n acc [] = none_closing n acc
+    deads_closing n acc (o ∷ os) = join_closing n n n acc (only (action.Dead o)) (deads os) (only_closing n acc (action.Dead o) refl (λ temps e. tt)) (deads_closing n acc os)
+
+    pub ends_closing : (n : ℕ) (acc : Temps) (os : List ℕ) → Closing n acc (join (deads os) (only action.End)) n
+    ends_closing n acc os = join_closing n n n acc (deads os) (only action.End) (deads_closing n acc os) (only_closing n (nodes_sets (deads os) acc) action.End refl (λ temps e. tt))
+
+    -- an object without an initialiser may hold Invalid where it has pointer cells
+    abbrev pub StartsInvalid : ℕ → Type 0
+    StartsInvalid o = pointing.has_pointer (cells o) ≡ true → sets o member.Invalid ≡ true
+
+    pointer_there : (xs : List CellType) (f : ℕ) (types : List CellType) → from f xs ≡ Pointer ∷ types → pointing.has_pointer xs ≡ true
+    pointer_there [] zero types e = cc
+    pointer_there [] (suc f) types e = cc
+    pointer_there (Integer ty ∷ xs) zero types e = cc
+    pointer_there (Integer ty ∷ xs) (suc f) types e = pointer_there xs f types e
+    pointer_there (Pointer ∷ xs) f types e = refl
+
+    invalid_within : (set : Member → Bool) → set member.Invalid ≡ true → Within (targets Invalid) set
+    invalid_within set h member.Null e = cc
+    invalid_within set h member.Invalid e = h
+    invalid_within set h (member.Object o) e = cc
+
+    filled_closing : (n o f : ℕ) (types : List CellType) (acc : Temps) → StartsInvalid o → from f (cells o) ≡ types → Closing n acc (filled n o f types).nodes (filled n o f types).next
+    filled_closing n o f [] acc h e = none_closing n acc
+    filled_closing n o f (Integer ty ∷ types) acc h e =
+        let choice = action.Choice n ty in
+        let write = action.Write (Integer ty) (cell o f) (Temp n) in
+        let known = with_set acc n nowhere in
+        let rest = filled (suc n) o (suc f) types in
+        join_closing n (suc n) rest.next acc (only choice) (more (Do write) rest.nodes) (result_closing n acc choice nowhere refl (λ temps e. tt))
+        (join_closing (suc n) (suc n) rest.next known (only write) rest.nodes (write_closing (suc n) known (Integer ty) o f (Temp n) (omega arith) (subst (λ s. Within s (sets o)) (sym (set_same acc n nowhere)) (λ m z. cc)))
+        (filled_closing (suc n) o (suc f) types known h (from_next (cells o) f (Integer ty) types e)))
+    filled_closing n o f (Pointer ∷ types) acc h e =
+        let write = action.Write Pointer (cell o f) (Constant Invalid) in
+        let rest = filled n o (suc f) types in
+        join_closing n n rest.next acc (only write) rest.nodes (write_closing n acc Pointer o f (Constant Invalid) tt (invalid_within (sets o) (h (pointer_there (cells o) f types e)))) (filled_closing n o (suc f) types acc h (from_next (cells o) f Pointer types e))
+
+    pub declaration_closing : (n o : ℕ) (acc : Temps) → StartsInvalid o → Closing n acc (declaration cells n o).nodes (declaration cells n o).next
+    declaration_closing n o acc h =
+        let p = filled n o 0 (cells o) in
+        join_closing n n p.next acc (only (action.Live o)) p.nodes (only_closing n acc (action.Live o) refl (λ temps e. tt)) (filled_closing n o 0 (cells o) acc h refl)
+
+    initialised_closing : (n o : ℕ) (types : List CellType) (a : Operand) (acc : Temps) (set : Member → Bool) → IsBelow n a → Within (may_of acc a) set → Within set (sets o) → Closing n acc (initialised o types a) n
+    initialised_closing n o [] a acc set b h k = none_closing n acc
+    initialised_closing n o (ty ∷ rest) a acc set b h k = write_closing n acc ty o 0 a b (within_trans (may_of acc a) set (sets o) h k)
+
+    -- ---- statements
+
+    guard_closing : (e : TypedTree) (p : ℕ → Part) (n : ℕ) (acc : Temps) → IsTyped cells e → IsInteger (type_of e) → IsTakenIn sets e → ((later : Temps) → Closing (condition n e).next later (p (condition n e).next).nodes (p (condition n e).next).next) → Closing n acc (guard (condition n e) p).nodes (guard (condition n e) p).next
+    guard_closing e p n acc h is t next =
+        let x = condition n e in
+        let q = p x.next in
+        let later = nodes_sets x.nodes acc in
+        join_closing n x.next q.next acc x.nodes (more (Do (action.Unless x.operand 0)) q.nodes) (condition_closing e h is t n acc)
+        (join_closing x.next x.next q.next later (only (action.Unless x.operand 0)) q.nodes (only_closing x.next later (action.Unless x.operand 0) refl (λ temps e. tt)) (next later))
+
+    module _ (is_static : ℕ → Bool) (starts : (o : ℕ) → is_static o ≡ false → StartsInvalid o) (result : List CellType) where
+      abbrev Closes : Part → ℕ → Temps → Type 0
+      Closes p n acc = Closing n acc p.nodes p.next
+
+      mutual
+        pub statement_closing : (s : CheckedTree) → IsTypedStatement cells result s → StatementIsTakenIn sets s → (names : List ℕ) → IsScopedStatement is_static names s → (scope : List ℕ) (n : ℕ) (acc : Temps) → Closes (statement cells scope n s) n acc
+        statement_closing (tree.Block all) h t names c scope n acc =
+            let x = statements cells scope n all in
+            join_closing n x.next x.next acc x.nodes (deads (declared all)) (statements_closing all h t names c scope n acc) (deads_closing x.next (nodes_sets x.nodes acc) (declared all))
+        statement_closing (tree.Declare o) h t names c scope n acc = declaration_closing n o acc (starts o c)
+        statement_closing (tree.Static o) h t names c scope n acc = none_closing n acc
+        statement_closing (tree.Initialise o e) (h, is) (t, in') names c scope n acc =
+            let x = expression n e in
+            let w = expression_bounded e h t n acc in
+            let last = initialised o (type_of e) x.operand in
+            join_closing n n x.next acc (only (action.Live o)) (join x.nodes last) (only_closing n acc (action.Live o) refl (λ temps e. tt))
+            (join_closing n x.next x.next acc x.nodes last w.closing (initialised_closing x.next o (type_of e) x.operand (nodes_sets x.nodes acc) (pointing.may_be sets e) w.below w.bound in'))
+        statement_closing (tree.Label l) h t names c scope n acc = none_closing n acc
+        statement_closing (tree.Evaluate e) h t names c scope n acc =
+            let x = expression n e in
+            join_closing n x.next x.next acc x.nodes none (expression_bounded e h t n acc).closing (none_closing x.next (nodes_sets x.nodes acc))
+        statement_closing (tree.If e s) (h, is, k) (t, t') names (c, z, d) scope n acc =
+            let x = guard (condition n e) (λ m. statement cells scope m s) in
+            block_closing n x.next acc x.nodes (guard_closing e (λ m. statement cells scope m s) n acc h is t (λ later. statement_closing s k t' names d scope (condition n e).next later))
+        statement_closing (tree.IfElse e s z) (h, is, k, k') (t, t', t'') names (c, y, d, y', d') scope n acc =
+            let x = guard (condition n e) (λ m. statement cells scope m s) in
+            let first = first_side x in
+            let second = statement cells scope x.next z in
+            block_closing n second.next acc (join first.nodes second.nodes)
+            (join_closing n x.next second.next acc first.nodes second.nodes
+            (block_closing n x.next acc (join x.nodes (only (action.Goto 1)))
+            (join_closing n x.next x.next acc x.nodes (only (action.Goto 1)) (guard_closing e (λ m. statement cells scope m s) n acc h is t (λ later. statement_closing s k t' names d scope (condition n e).next later))
+            (only_closing x.next (nodes_sets x.nodes acc) (action.Goto 1) refl (λ temps e. tt))))
+            (statement_closing z k' t'' names d' scope x.next (nodes_sets first.nodes acc)))
+        statement_closing (tree.While l named e s) (h, is, k) (t, t') names (c, z, d) scope n acc =
+            let x = guard (condition n e) (λ m. statement cells scope m s) in
+            block_closing n x.next acc (more (Loop l x.nodes) none) (loop_closing n x.next l acc x.nodes (guard_closing e (λ m. statement cells scope m s) n acc h is t (λ later. statement_closing s k t' names d scope (condition n e).next later)))
+        statement_closing (tree.Return e) (h, is) t names c scope n acc =
+            let x = expression n e in
+            join_closing n x.next x.next acc x.nodes (join (deads scope) (only action.End)) (expression_bounded e h t n acc).closing (ends_closing x.next (nodes_sets x.nodes acc) scope)
+
+        pub statements_closing : (all : CheckedTrees) → AreTyped cells result all → AreTakenIn sets all → (names : List ℕ) → AreScoped is_static names all → (scope : List ℕ) (n : ℕ) (acc : Temps) → Closes (statements cells scope n all) n acc
+        statements_closing tree.none h t names c scope n acc = none_closing n acc
+        statements_closing (tree.more s rest) (h, k) (t, t') names (c, d) scope n acc =
+            let x = statement cells scope n s in
+            let y = statements cells (scopes.behind scope s) x.next rest in
+            join_closing n x.next y.next acc x.nodes y.nodes (statement_closing s h t names c scope n acc) (statements_closing rest k t' (scopes.behind names s) d (scopes.behind scope s) x.next (nodes_sets x.nodes acc))
