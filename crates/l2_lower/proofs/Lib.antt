@@ -19,3 +19,4 @@ pub mod NeverStuck
 pub mod WellFormedCode
 pub mod SetsClosed
 pub mod SetsLeast
+pub mod PointsTo

@@ -51,7 +51,7 @@ same_too to from e =
     subst (λ t. same_type (Integer t) (Integer from) ≡ true) same (same_type_self (Integer from))
 
 module _ (f : Family) where
-  closed_join : (xs ys : Nodes) → AreClosed f (join xs ys) → AreClosed f xs × AreClosed f ys
+  pub closed_join : (xs ys : Nodes) → AreClosed f (join xs ys) → AreClosed f xs × AreClosed f ys
   closed_join none ys h = (tt, h)
   closed_join (more x xs) ys (p, q) = let r = closed_join xs ys q in ((p, r.0), r.1)
 

@@ -115,7 +115,7 @@ module _ (sets : pointing.Sets) where
   join_closed temps none ys h k = k
   join_closed temps (more x xs) ys (p, q) k = (p, join_closed temps xs ys q k)
 
-  join_closing : (n m k : ℕ) (acc : Temps) (xs ys : Nodes) → Closing n acc xs m → Closing m (nodes_sets xs acc) ys k → Closing n acc (join xs ys) k
+  pub join_closing : (n m k : ℕ) (acc : Temps) (xs ys : Nodes) → Closing n acc xs m → Closing m (nodes_sets xs acc) ys k → Closing n acc (join xs ys) k
   join_closing n m k acc xs ys h l = record {
     closes = λ temps e.
         let so = λ (i : ℕ) (p : i < k). e i p ∙ (λ j. join_sets xs ys acc j i) in
@@ -124,10 +124,10 @@ module _ (sets : pointing.Sets) where
     grows = let a = h.grows in let b = l.grows in omega arith;
   }
 
-  none_closing : (n : ℕ) (acc : Temps) → Closing n acc none n
+  pub none_closing : (n : ℕ) (acc : Temps) → Closing n acc none n
   none_closing n acc = record { closes = λ temps e. tt; stay = λ i p. refl; grows = omega arith }
 
-  only_closing : (n : ℕ) (acc : Temps) (a : Action) → action_sets a acc ≡ acc → ((temps : Temps) → ((i : ℕ) → i < n → temps i ≡ acc i) → IsClosedAction (fam temps) a) → Closing n acc (only a) n
+  pub only_closing : (n : ℕ) (acc : Temps) (a : Action) → action_sets a acc ≡ acc → ((temps : Temps) → ((i : ℕ) → i < n → temps i ≡ acc i) → IsClosedAction (fam temps) a) → Closing n acc (only a) n
   only_closing n acc a e h = record {
     closes = λ temps q. (h temps (λ i p. q i p ∙ (λ j. e j i)), tt);
     stay = λ i p. λ j. e j i;
