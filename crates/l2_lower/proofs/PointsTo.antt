@@ -15,7 +15,7 @@ use Rattle.l2_program.specs.declared.program.ObjectInfo.{ObjectInfo}
 use Rattle.l2_program.specs.declared.program.StaticValue.{StaticValue}
 use Rattle.l2_program.specs.Programs.{ProgramTree, FunctionTree}
 use Rattle.l2_meaning.specs.Execution.{cells_of, known_cells, main_among, value_in, first_cell}
-use Rattle.l2_meaning.specs.Scopes.{statics_of}
+use Rattle.l2_meaning.specs.Scopes.{is_static_object, statics_of}
 use Rattle.l2_meaning.specs.Lawful.{IsLawful, HoldStart, HoldObject, HoldStatics, AreNotStatic}
 use Rattle.l2_meaning.specs.Pointing.{Sets, first_member, ValuesAreTakenIn, StatementIsTakenIn, AreClosed, ArePointsTo}
 use Rattle.l2_meaning.specs.Pointing as pointing
@@ -123,3 +123,90 @@ module _ (cells : Layout) (sets : Sets) where
         subst (λ x. IsClosedObject (sets (n + 0)) x) (some_same _ c e)
         (closed_object ns o _ (sets (n + 0)) (first 0 o refl) (held_dead o.cells (sets (n + 0)) (λ p. subst (λ b. sets (n + 0) (first_member b) ≡ true) s (first 0 o refl p))))
     go false s h (suc i) e rest = subst (λ k. IsClosedObject (sets k) c) (sym (next i)) (rest values h t i c e)
+
+-- ---- lawful programs
+
+module _ (p : ProgramTree) (lawful : IsLawful p) where
+  abbrev main : FunctionTree
+  main = lawful.main_function
+
+  main_is : (g : FunctionTree) → main_among p.names p.functions ≡ Some g → main ≡ g
+  main_is g e = some_same main g (sym lawful.is_main ∙ e)
+
+  -- sets closed over the code are closed over the program
+  closed_program : (f : Family) → IsClosed (lowered.code p) f → AreClosed p f.object
+  closed_program f h = record { first = first; statics = statics; body = body } where
+    first_at : (i : ℕ) (o : ObjectInfo) → (start : List CellValue) × (slice_get (code_objects p.names p.static_values p.objects) i ≡ Some (code_object p.names o start)) → pointing.has_pointer o.cells ≡ true → f.object (suc i) (first_member o.is_static) ≡ true
+    first_at i o (start, e) q = subst (λ m. f.object (suc i) m ≡ true) (same_first o.is_static) ((h.objects (suc i) (code_object p.names o start) e).first (same_pointers o.cells ∙ q))
+
+    first : (n : ℕ) (o : ObjectInfo) → at_number p.objects n ≡ Some o → pointing.has_pointer o.cells ≡ true → f.object n (first_member o.is_static) ≡ true
+    first zero o e q = cc
+    first (suc i) o e q = first_at i o (code_at p.names p.static_values p.objects i o e) q
+
+    statics : ValuesAreTakenIn f.object p.static_values
+    statics = values_taken (cells_of p) f.object p.names 1 p.objects p.static_values lawful.statics (λ i c e. let s : suc i ≡ 1 + i = omega arith in subst (λ k. AreHeld (f.object k) c.start) s (h.objects (suc i) c e).start)
+
+    in_main : StatementIsTakenIn f.object main.body
+    in_main =
+        let cells = cells_of p in
+        let d = declarations cells 1 main.parameters in
+        let s = statement cells main.parameters d.next main.body in
+        let is = lawful.functions lawful.main main lawful.has_main in
+        let all = subst (λ (g : Option FunctionTree). code.AreClosed f (main_code cells 1 g).nodes) lawful.is_main h.actions in
+        let q = closed_join f d.nodes (body_code cells d.next main).nodes all in
+        let r = closed_join f s.nodes (join (deads main.parameters) (only End)) q.1 in
+        statement_taken f cells main.result main.body is.typed main.parameters d.next r.0
+
+    body : (g : FunctionTree) → main_among p.names p.functions ≡ Some g → StatementIsTakenIn f.object g.body
+    body g e = subst (λ (x : FunctionTree). StatementIsTakenIn f.object x.body) (main_is g e) in_main
+
+  module _ (sets : Sets) (h : AreClosed p sets) where
+    starts_at : (o : Option ObjectInfo) (n : ℕ) → at_number p.objects n ≡ o → is_static_object o ≡ false → pointing.has_pointer (known_cells o) ≡ true → sets n member.Invalid ≡ true
+    starts_at None n e s q = cc
+    starts_at (Some o) n e s q = subst (λ b. sets n (first_member b) ≡ true) s (h.first n o e q)
+
+    starts : (n : ℕ) → statics_of p n ≡ false → StartsInvalid sets (cells_of p) n
+    starts n s q = starts_at (at_number p.objects n) n refl s q
+
+    parameters_closing : (os : List ℕ) (n : ℕ) (acc : _) → AreNotStatic (statics_of p) os → Closing sets n acc (declarations (cells_of p) n os).nodes (declarations (cells_of p) n os).next
+    parameters_closing [] n acc q = none_closing sets n acc
+    parameters_closing (o ∷ os) n acc (s, q) =
+        let d = declaration (cells_of p) n o in
+        let r = declarations (cells_of p) d.next os in
+        join_closing sets n d.next r.next acc d.nodes r.nodes (declaration_closing sets (cells_of p) n o acc (starts o s)) (parameters_closing os d.next (nodes_sets sets d.nodes acc) q)
+
+    main_closing : Closing sets 1 (λ n. nowhere) (main_code (cells_of p) 1 (Some main)).nodes (main_code (cells_of p) 1 (Some main)).next
+    main_closing =
+        let cells = cells_of p in
+        let acc = λ (n : ℕ). nowhere in
+        let d = declarations cells 1 main.parameters in
+        let s = statement cells main.parameters d.next main.body in
+        let is = lawful.functions lawful.main main lawful.has_main in
+        let later = nodes_sets sets d.nodes acc in
+        join_closing sets 1 d.next s.next acc d.nodes (body_code cells d.next main).nodes (parameters_closing main.parameters 1 acc is.parameters)
+        (join_closing sets d.next s.next s.next later s.nodes (join (deads main.parameters) (only End))
+        (statement_closing sets cells (statics_of p) starts main.result main.body is.typed (h.body main lawful.is_main) main.parameters is.scoped main.parameters d.next later)
+        (ends_closing sets cells s.next (nodes_sets sets s.nodes later) main.parameters))
+
+    temps : ℕ → Member → Bool
+    temps = nodes_sets sets (main_code (cells_of p) 1 (Some main)).nodes (λ n. nowhere)
+
+    -- sets closed over the program are closed over the code, with these sets of temporaries
+    program_closed : IsClosed (lowered.code p) (fam sets temps)
+    program_closed = record { actions = actions; objects = objects } where
+      actions : code.AreClosed (fam sets temps) (lowered.code p).body
+      actions = subst (λ (g : Option FunctionTree). code.AreClosed (fam sets temps) (main_code (cells_of p) 1 g).nodes) (sym lawful.is_main) (main_closing.closes temps (λ i q. refl))
+
+      objects : (n : ℕ) (c : CodeObject) → at_number (lowered.code p).objects n ≡ Some c → IsClosedObject (sets n) c
+      objects zero c e = cc
+      objects (suc i) c e =
+          let s : suc i ≡ 1 + i = omega arith in
+          subst (λ k. IsClosedObject (sets k) c) (sym s)
+          (objects_closed (cells_of p) sets p.names 1 p.objects p.static_values lawful.statics h.statics (λ j o d q. let z : suc j ≡ 1 + j = omega arith in subst (λ k. sets k (first_member o.is_static) ≡ true) z (h.first (suc j) o d q)) i c e)
+
+  -- the least closed sets of the code are the program's
+  pub points_to : (f : Family) → IsClosed (lowered.code p) f → ((g : Family) → IsClosed (lowered.code p) g → IsInside f g) → ArePointsTo p f.object
+  points_to f h least = record {
+    closed = closed_program f h;
+    least = λ other k n. (least (fam other (temps other k)) (program_closed other k)).objects n;
+  }
