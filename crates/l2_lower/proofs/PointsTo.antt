@@ -1,11 +1,11 @@
 -- The least closed sets of the code of a program are, on its objects, the program's points-to sets.
-use Rattle.std.proofs.Common.{◌≡◌, ℕ, zero, suc, ◌+◌, ◌<◌, Bool, true, false, List, [], ◌∷◌, ◌++◌, length, map, take, drop, Option, Some, None, refl, sym, ap, subst, ◌∙◌, arith}
-use Rattle.std.specs.Prelude.{slice_get, ◌==◌, ◌||◌, if◌then◌else◌}
+use Rattle.std.proofs.Common.{◌≡◌, ℕ, zero, suc, ◌+◌, Bool, true, false, List, [], ◌∷◌, length, map, take, drop, Option, Some, None, refl, sym, ap, subst, ◌∙◌, arith}
+use Rattle.std.specs.Prelude.{slice_get, if◌then◌else◌}
 use Rattle.l2_syntax.specs.declared.token.Name.{Name}
 use Rattle.l2_runs.specs.declared.cells.CellType.{CellType}
 use Rattle.l2_runs.specs.declared.cells.CellType.TheVariants.{Integer, Pointer}
 use Rattle.l2_runs.specs.declared.cells.CellValue.{CellValue}
-use Rattle.l2_runs.specs.declared.cells.CellValue.TheVariants.{Number, Invalid}
+use Rattle.l2_runs.specs.declared.cells.CellValue.TheVariants.{Invalid}
 use Rattle.l2_runs.specs.declared.member.Member.{Member}
 use Rattle.l2_runs.specs.declared.member.Member.TheVariants as member
 use Rattle.l2_runs.specs.Numbers.{at_number}
@@ -21,7 +21,7 @@ use Rattle.l2_meaning.specs.Pointing.{Sets, first_member, ValuesAreTakenIn, Stat
 use Rattle.l2_meaning.specs.Pointing as pointing
 use Rattle.l2_code.specs.declared.code.CodeObject.{CodeObject}
 use Rattle.l2_code.specs.declared.action.Action.TheVariants.{End}
-use Rattle.l2_code.specs.Trees.{none, join}
+use Rattle.l2_code.specs.Trees.{join}
 use Rattle.l2_code.specs.Sets as code
 use Rattle.l2_code.specs.Sets.{Family, IsInside, AreHeld, IsClosedObject, IsClosed}
 use Rattle.l2_lower.specs.Emitting.{only}
@@ -29,7 +29,7 @@ use Rattle.l2_lower.specs.Statements.{declaration, deads, statement}
 use Rattle.l2_lower.specs.Code.{code_object, code_objects, declarations, body_code, main_code}
 use Rattle.l2_lower.specs.Code as lowered
 use Rattle.l2_lower.proofs.SetsClosed.{closed_join, statement_taken}
-use Rattle.l2_lower.proofs.SetsLeast.{nowhere, nodes_sets, fam, Closing, join_closing, none_closing, only_closing, ends_closing, declaration_closing, StartsInvalid, statement_closing}
+use Rattle.l2_lower.proofs.SetsLeast.{nowhere, nodes_sets, fam, Closing, join_closing, none_closing, ends_closing, declaration_closing, StartsInvalid, statement_closing}
 
 some_same : {A : Type 0} (a b : A) → Some a ≡ Some b → a ≡ b
 some_same a b e = cc
@@ -134,7 +134,7 @@ module _ (p : ProgramTree) (lawful : IsLawful p) where
   main_is g e = some_same main g (sym lawful.is_main ∙ e)
 
   -- sets closed over the code are closed over the program
-  closed_program : (f : Family) → IsClosed (lowered.code p) f → AreClosed p f.object
+  pub closed_program : (f : Family) → IsClosed (lowered.code p) f → AreClosed p f.object
   closed_program f h = record { first = first; statics = statics; body = body } where
     first_at : (i : ℕ) (o : ObjectInfo) → (start : List CellValue) × (slice_get (code_objects p.names p.static_values p.objects) i ≡ Some (code_object p.names o start)) → pointing.has_pointer o.cells ≡ true → f.object (suc i) (first_member o.is_static) ≡ true
     first_at i o (start, e) q = subst (λ m. f.object (suc i) m ≡ true) (same_first o.is_static) ((h.objects (suc i) (code_object p.names o start) e).first (same_pointers o.cells ∙ q))
@@ -188,7 +188,7 @@ module _ (p : ProgramTree) (lawful : IsLawful p) where
         (statement_closing sets cells (statics_of p) starts main.result main.body is.typed (h.body main lawful.is_main) main.parameters is.scoped main.parameters d.next later)
         (ends_closing sets cells s.next (nodes_sets sets s.nodes later) main.parameters))
 
-    temps : ℕ → Member → Bool
+    abbrev temps : ℕ → Member → Bool
     temps = nodes_sets sets (main_code (cells_of p) 1 (Some main)).nodes (λ n. nowhere)
 
     -- sets closed over the program are closed over the code, with these sets of temporaries

@@ -1,16 +1,14 @@
 -- Sets that are closed over the code of a program are closed over the program.
-use Rattle.std.proofs.Common.{◌≡◌, ℕ, zero, suc, ◌<◌, Bool, true, false, List, [], ◌∷◌, ◌++◌, length, map, take, drop, Option, Some, None, refl, sym, ap, subst, ◌∙◌, arith}
-use Rattle.std.specs.Prelude.{◌==◌, ◌&&◌, not, if◌then◌else◌, slice_get}
+use Rattle.std.proofs.Common.{◌≡◌, ℕ, Bool, true, false, List, [], ◌∷◌, refl, subst, arith}
+use Rattle.std.specs.Prelude.{◌==◌, ◌&&◌, not, if◌then◌else◌}
 use Rattle.std.proofs.lemmas.Bool.{eqb-true}
 use Rattle.l2_bits.specs.declared.types.Ty.{Ty}
 use Rattle.l2_bits.proofs.TypeLaws as types
 use Rattle.l2_runs.specs.declared.cells.CellType.{CellType}
 use Rattle.l2_runs.specs.declared.cells.CellType.TheVariants.{Integer, Pointer}
-use Rattle.l2_runs.specs.declared.cells.CellValue.{CellValue}
-use Rattle.l2_runs.specs.declared.cells.CellValue.TheVariants.{Number, Null, Invalid, At}
 use Rattle.l2_runs.specs.declared.member.Member.{Member}
 use Rattle.l2_runs.specs.declared.member.Member.TheVariants as member
-use Rattle.l2_runs.specs.Members.{same_member, targets, Within}
+use Rattle.l2_runs.specs.Members.{Within}
 use Rattle.l2_runs.specs.Fits.{Layout}
 use Rattle.l2_program.specs.Checked as tree
 use Rattle.l2_program.specs.Checked.{TypedTree, CheckedTree, CheckedTrees}
@@ -18,15 +16,15 @@ use Rattle.l2_program.specs.Types.{type_of}
 use Rattle.l2_meaning.specs.Lawful.{IsTyped, IsInteger, IsTypedStatement, AreTyped}
 use Rattle.l2_meaning.specs.Pointing.{is_same, IsTakenIn, TakeIn, StatementIsTakenIn, AreTakenIn}
 use Rattle.l2_meaning.specs.Pointing as pointing
+use Rattle.l2_meaning.specs.Meaning.{declared}
 use Rattle.l2_code.specs.declared.action.Operand.{Operand}
-use Rattle.l2_code.specs.declared.action.Operand.TheVariants.{Constant, Temp}
 use Rattle.l2_code.specs.declared.action.Computation.TheVariants.{Convert}
 use Rattle.l2_code.specs.declared.action.Action.TheVariants as action
-use Rattle.l2_code.specs.Trees.{Node, Do, Block, Loop, Nodes, none, more, join}
-use Rattle.l2_code.specs.Values.{same_sign, same_type}
-use Rattle.l2_code.specs.Sets.{Family, may_be, IsClosedNode, AreClosed}
+use Rattle.l2_code.specs.Trees.{Do, Nodes, none, more, join}
+use Rattle.l2_code.specs.Values.{same_type}
+use Rattle.l2_code.specs.Sets.{Family, may_be, AreClosed}
 use Rattle.l2_lower.specs.Emitting.{only, cell, nothing, computed, unary_code, conversion, truth_code, checked, expression, condition}
-use Rattle.l2_lower.specs.Statements.{guard, initialised, deads, statement, statements}
+use Rattle.l2_lower.specs.Statements.{initialised, deads, statement, statements}
 use Rattle.l2_lower.proofs.Converted.{same_type_self}
 
 same_number : (n : ℕ) → (n == n) ≡ true
@@ -112,7 +110,7 @@ module _ (f : Family) where
     module _ (result : List CellType) where
       mutual
         pub statement_taken : (s : CheckedTree) → IsTypedStatement cells result s → (scope : List ℕ) (n : ℕ) → AreClosed f (statement cells scope n s).nodes → StatementIsTakenIn f.object s
-        statement_taken (tree.Block all) h scope n c = statements_taken all h scope n (closed_join (statements cells scope n all).nodes _ c).0
+        statement_taken (tree.Block all) h scope n c = statements_taken all h scope n (closed_join (statements cells scope n all).nodes (deads (declared all)) c).0
         statement_taken (tree.Declare o) h scope n c = tt
         statement_taken (tree.Static o) h scope n c = tt
         statement_taken (tree.Initialise o e) (h, is) scope n (z, c) =

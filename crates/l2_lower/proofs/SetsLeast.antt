@@ -1,5 +1,5 @@
 -- Sets that are closed over a program are closed over its code, with sets of temporaries that it has.
-use Rattle.std.proofs.Common.{◌≡◌, ℕ, zero, suc, ◌<◌, ◌≤◌, ℤ, pos, Bool, true, false, not, List, [], ◌∷◌, ◌++◌, Option, Some, None, refl, sym, ap, subst, ◌∙◌, arith}
+use Rattle.std.proofs.Common.{◌≡◌, ℕ, zero, suc, ◌<◌, ◌≤◌, ℤ, Bool, true, false, not, List, [], ◌∷◌, Option, Some, None, refl, sym, subst, ◌∙◌, arith}
 use Rattle.std.specs.Prelude.{◌==◌, ◌&&◌, if◌then◌else◌}
 use Rattle.std.proofs.lemmas.Bool.{eqb-true}
 use Rattle.std.proofs.lemmas.Bool.Decides.{nat_tests}
@@ -37,11 +37,11 @@ use Rattle.l2_code.specs.declared.action.Operand.{Operand}
 use Rattle.l2_code.specs.declared.action.Operand.TheVariants.{Constant, Temp}
 use Rattle.l2_code.specs.Trees.{Node, Do, Block, Loop, Nodes, none, more, join}
 use Rattle.l2_code.specs.Values.{no_temps, same_type, as_number, on_numbers, converted, operate, compute}
-use Rattle.l2_code.specs.Sets.{Family, may_be, IsClosedResult, IsClosedAction, IsClosedNode, AreClosed}
-use Rattle.l2_lower.specs.Emitting.{only, cell, Emitted, Part, part, after, behind, nothing, result, checked, operands_of, are_constant, or_zero, no_types, computed, zero_number, overflow_check, unary_code, binary_code, conversion, truth_code, expression, condition}
-use Rattle.l2_lower.specs.Statements.{guard, as_block, as_loop, first_side, followed, filled, declaration, initialised, deads, statement, statements}
+use Rattle.l2_code.specs.Sets.{Family, may_be, IsClosedResult, IsClosedAction, AreClosed}
+use Rattle.l2_lower.specs.Emitting.{only, cell, Emitted, Part, after, behind, nothing, result, checked, operands_of, are_constant, or_zero, no_types, computed, zero_number, overflow_check, unary_code, binary_code, conversion, truth_code, expression, condition}
+use Rattle.l2_lower.specs.Statements.{guard, first_side, filled, declaration, initialised, deads, statement, statements}
 use Rattle.l2_lower.proofs.Converted.{same_types}
-use Rattle.l2_lower.proofs.Computing.{IsBelow, below_more}
+use Rattle.l2_lower.proofs.Computing.{IsBelow}
 
 -- sets of temporaries
 abbrev pub Temps : Type 0
