@@ -4,14 +4,20 @@ use Rattle.l2_outside.specs.Outside.{Files, Rose}
 use Rattle.l2_inputs.specs.Inputs.{Input, AreRead, HasFault, IsTooLong}
 use Rattle.l2_inputs.specs.declared.input.InputError.{InputError}
 use Rattle.l2_inputs.specs.declared.input.InputError.TheVariants as error
-use Rattle.l2_request.specs.Requests.{Request, Replay, command, text, values_file, inputs}
+use Rattle.l2_request.specs.declared.request.View.{View}
+use Rattle.l2_request.specs.Requests.{Request, Replay, Show, command, text, values_file, inputs}
 use Rattle.l2_answer.specs.declared.status.Answer.{Answer}
 use Rattle.l2_answer.specs.Replays.{Replays}
+use Rattle.l2_answer.specs.Shows.{Shows}
 use Rattle.l2_answer.specs.Answers.{Judges, Answers, IsUnread, unreadable, over_limit, judged}
 
 -- these two inputs are those of a replay
 pub replay_inputs : (file values : List ℕ) (i j : Input) → i ≡ text file → j ≡ values_file values → i ∷ j ∷ [] ≡ inputs (Replay file values)
 replay_inputs file values i j e f = λ k. e k ∷ f k ∷ []
+
+-- this input is that of a show
+pub show_inputs : (view : View) (file : List ℕ) (i : Input) → i ≡ text file → i ∷ [] ≡ inputs (Show view file)
+show_inputs view file i e = λ k. e k ∷ []
 
 judged_so : {E : Type 0} (files : Option Files) (before now : ℕ) (words : List (List ℕ)) (r : Request) (all : List Input) (contents : List (List ℕ)) →
     command words ≡ Some r → all ≡ inputs r → AreRead files all contents →
@@ -26,6 +32,13 @@ pub judged_replay : {E : Type 0} (files : Option Files) (before now : ℕ) (word
 judged_replay files before now words file values i j t v t' v' asks e f read p q r replays =
     judged_so files before now words (Replay file values) (i ∷ j ∷ []) (t ∷ v ∷ []) asks (replay_inputs file values i j e f) read r
     (subst (λ x. IfOk r (λ a. Replays t x a.status a.output.items)) q (subst (λ x. IfOk r (λ a. Replays x v' a.status a.output.items)) p replays))
+
+pub judged_show : {E : Type 0} (files : Option Files) (before now : ℕ) (words : List (List ℕ)) (view : View) (file : List ℕ) (i : Input) (t t' : List ℕ) →
+    command words ≡ Some (Show view file) → i ≡ text file → AreRead files (i ∷ []) (t ∷ []) → t' ≡ t →
+    (r : Result Answer E) → IfOk r (λ a. Shows view t' a.status a.output.items) → IfOk r (λ a. Answers files before now words a.status a.output.items)
+judged_show files before now words view file i t t' asks e read p r shows =
+    judged_so files before now words (Show view file) (i ∷ []) (t ∷ []) asks (show_inputs view file i e) read r
+    (subst (λ x. IfOk r (λ a. Shows view x a.status a.output.items)) p shows)
 
 answers_unread : (files : Option Files) (before now : ℕ) (words : List (List ℕ)) (r : Request) (x : InputError) (a : Answer) → command words ≡ Some r →
     (x ≡ error.Fault → HasFault files (Rose before now) (inputs r)) → (x ≡ error.TooLong → IsTooLong files (inputs r)) →

@@ -5,6 +5,7 @@ mod answering;
 mod laws;
 mod line;
 mod replay_answer;
+mod show_answer;
 mod status;
 mod text_answer;
 

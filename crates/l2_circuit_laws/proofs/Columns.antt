@@ -1,12 +1,12 @@
 -- Circuits that go bit by bit, in a model.
 use Rattle.std.proofs.Common.{◌≡◌, ℕ, Bool, true, false, not, refl, sym, ap, ◌∙◌, List, [], ◌∷◌}
-use Rattle.l2_gates.specs.Gates.{Lit, negated, Made, Bit, and, or, xor, mux}
-use Rattle.l2_gates.specs.Models.{both, some_of, differ, chosen, value, Ok}
+use Rattle.l2_gates.specs.Gates.{Lit, negated, Made, and, xor}
+use Rattle.l2_gates.specs.Models.{both, some_of, differ, value, Ok}
 use Rattle.l2_gates.proofs.Values.{negated_value, and_gives, or_gives, xor_gives, mux_gives}
 use Rattle.l2_circuits.specs.declared.columns.Kind.{Kind}
 use Rattle.l2_circuits.specs.declared.columns.Kind.TheVariants.{And, Or, Xor, Choose, Mask, Add, Equal}
-use Rattle.l2_circuits.specs.Words.{Column, column, Sum, columns}
-use Rattle.l2_circuit_laws.specs.Values.{values, Handed, column_value, Total, column_values}
+use Rattle.l2_circuits.specs.Words.{Column, column, columns}
+use Rattle.l2_circuit_laws.specs.Values.{values, Handed, column_value, column_values}
 use Rattle.l2_circuit_laws.specs.Law.{Adds, ColumnsHaveValues}
 
 or_is : (x y : Bool) → not (both (not x) (not y)) ≡ some_of x y

@@ -4,3 +4,6 @@ pub mod Numbers
 pub mod Products
 pub mod Quotients
 pub mod Shown
+pub mod Signed
+pub mod Constants
+pub mod Makings

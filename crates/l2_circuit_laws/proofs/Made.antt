@@ -1,11 +1,11 @@
 -- Circuits that go bit by bit are made.
-use Rattle.std.proofs.Common.{◌≡◌, ℕ, ◌≤◌, ◌<◌, List, [], ◌∷◌, arith}
+use Rattle.std.proofs.Common.{List, [], ◌∷◌}
 use Rattle.l2_gates.specs.Gates.{Lit, negated, Made, Bit, and, or, xor, mux}
 use Rattle.l2_gates.specs.Models.{Below, AllBelow, Sound, Extends, Makes}
 use Rattle.l2_gates.proofs.Made.{below_up, all_up, negated_below, ext_refl, ext_then, makes_and, makes_or, makes_xor, makes_mux}
 use Rattle.l2_circuits.specs.declared.columns.Kind.{Kind}
 use Rattle.l2_circuits.specs.declared.columns.Kind.TheVariants.{And, Or, Xor, Choose, Mask, Add, Equal}
-use Rattle.l2_circuits.specs.Words.{Column, column, Sum, columns}
+use Rattle.l2_circuits.specs.Words.{Column, column, columns}
 use Rattle.l2_circuit_laws.specs.Law.{MakesSum, ColumnsAreMade}
 
 record MakesColumn (m : Made) (k : Column) : Type 0 where

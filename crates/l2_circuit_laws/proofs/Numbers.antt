@@ -1,13 +1,13 @@
 -- Sums, differences and comparisons of words, as numbers.
-use Rattle.std.proofs.Common.{◌≡◌, ℕ, zero, suc, ◌+◌, ◌*◌, ◌<◌, ◌≤◌, Bool, true, false, not, refl, sym, ap, ◌∙◌, subst, List, [], ◌∷◌, map, arith}
+use Rattle.std.proofs.Common.{◌≡◌, ℕ, ◌+◌, ◌*◌, ◌<◌, ◌≤◌, Bool, true, false, not, refl, sym, ap, ◌∙◌, subst, List, [], ◌∷◌, map, arith}
 use Rattle.std.specs.Prelude.{nat_lt, nat_eq}
 use Rattle.std.proofs.lemmas.Bool.Decides.{nat_tests}
-use Rattle.l2_gates.specs.Gates.{Lit, negated, T, Made, Bit}
+use Rattle.l2_gates.specs.Gates.{Lit, T, Made}
 use Rattle.l2_gates.specs.Models.{both, some_of, differ, value, Ok, Gives}
 use Rattle.l2_gates.proofs.Values.{negated_value}
 use Rattle.l2_circuits.specs.declared.columns.Kind.TheVariants.{Add, Equal}
-use Rattle.l2_circuits.specs.Words.{Sum, columns, sum, sub, ltu, eq, negated_word}
-use Rattle.l2_circuit_laws.specs.Values.{values, bit_number, number, power, SameSize, Total, column_value, column_values}
+use Rattle.l2_circuits.specs.Words.{sum, sub, ltu, eq, negated_word}
+use Rattle.l2_circuit_laws.specs.Values.{values, bit_number, number, power, SameSize, column_value, column_values}
 use Rattle.l2_circuit_laws.specs.Law.{SumsAre, DifferencesAre, LessIs, EqualIs}
 use Rattle.l2_circuit_laws.proofs.Columns.{columns_add}
 
@@ -95,7 +95,7 @@ add_is (x ∷ a) (y ∷ b) c h =
     let k = column_value Add x y c in
     let r = column_values Add a b k.carry in
     more (bit_number k.sum) (bit_number k.carry) (number r.bits) (number a) (number b) (power a) (bit_number r.carry) (bit_number x) (bit_number y) (bit_number c)
-        (add_is a b k.carry h) (column x y c)
+    (add_is a b k.carry h) (column x y c)
 
 pub add_size : (a b : List Bool) (c : Bool) → SameSize a b → SameSize (column_values Add a b c).bits a
 add_size [] [] c h = tt

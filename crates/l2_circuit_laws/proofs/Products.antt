@@ -1,16 +1,16 @@
 -- Choices and products of words, as numbers.
-use Rattle.std.proofs.Common.{◌≡◌, ℕ, zero, suc, ◌+◌, ◌*◌, Bool, true, false, not, refl, sym, ap, ◌∙◌, subst, List, [], ◌∷◌, arith}
-use Rattle.l2_gates.specs.Gates.{Lit, T, F, Made}
-use Rattle.l2_gates.specs.Models.{both, chosen, value, Ok}
+use Rattle.std.proofs.Common.{◌≡◌, ℕ, ◌+◌, ◌*◌, Bool, true, false, refl, sym, ap, ◌∙◌, subst, List, [], ◌∷◌, arith}
+use Rattle.l2_gates.specs.Gates.{Lit, F, Made}
+use Rattle.l2_gates.specs.Models.{both, value, Ok}
 use Rattle.l2_gates.proofs.Values.{value_F}
 use Rattle.l2_circuits.specs.declared.columns.Kind.{Kind}
 use Rattle.l2_circuits.specs.declared.columns.Kind.TheVariants.{Choose, Mask, Add}
-use Rattle.l2_circuits.specs.Words.{Word, Sum, column, columns, choose, where_true, sum, zeros}
+use Rattle.l2_circuits.specs.Words.{Word, column, columns, choose, where_true, sum, zeros}
 use Rattle.l2_circuits.specs.Products.{behind, mul_from, mul}
 use Rattle.l2_circuit_laws.specs.Values.{values, bit_number, number, power, SameSize, column_values}
 use Rattle.l2_circuit_laws.specs.Law.{picked, Chooses, ChoicesAre, Multiplies, ProductsAre}
 use Rattle.l2_circuit_laws.proofs.Columns.{columns_add}
-use Rattle.l2_circuit_laws.proofs.Numbers.{same_sym, same_trans, same_power, values_size, values_sizes, sum_number}
+use Rattle.l2_circuit_laws.proofs.Numbers.{same_sym, same_trans, same_power, values_sizes, sum_number}
 
 -- ---- sizes
 

@@ -1,15 +1,15 @@
 -- Quotients of words without signs, as numbers.
-use Rattle.std.proofs.Common.{◌≡◌, ℕ, zero, suc, ◌+◌, ◌*◌, ◌≤◌, ◌<◌, Bool, true, false, not, refl, sym, ap, ◌∙◌, subst, List, [], ◌∷◌, length, arith}
+use Rattle.std.proofs.Common.{◌≡◌, ℕ, zero, suc, ◌+◌, ◌*◌, ◌≤◌, ◌<◌, Bool, true, false, refl, sym, ap, ◌∙◌, subst, List, [], ◌∷◌, length, arith}
 use Rattle.l2_gates.specs.Gates.{Lit, T, F, Made}
 use Rattle.l2_gates.specs.Models.{value, Ok}
 use Rattle.l2_circuits.specs.declared.columns.Kind.TheVariants.{Choose, Add}
-use Rattle.l2_circuits.specs.Words.{Word, Sum, columns, resized, choose, sub, zeros, negated_word}
+use Rattle.l2_circuits.specs.Words.{resized, choose, sub, negated_word}
 use Rattle.l2_circuits.specs.Products.{behind, Divided, divide_bit, divide_by, divide}
-use Rattle.l2_circuit_laws.specs.Values.{values, bit_number, number, power, SameSize, column_values}
-use Rattle.l2_circuit_laws.specs.Law.{picked, Chooses, Divides, QuotientsAre}
+use Rattle.l2_circuit_laws.specs.Values.{values, bit_number, number, power, SameSize}
+use Rattle.l2_circuit_laws.specs.Law.{picked, Divides, QuotientsAre}
 use Rattle.l2_circuit_laws.proofs.Columns.{columns_add}
-use Rattle.l2_circuit_laws.proofs.Numbers.{same_sym, same_trans, same_power, values_size, values_sizes, negated_size, number_small, sub_number}
-use Rattle.l2_circuit_laws.proofs.Products.{columns_size, same_itself, behind_size, zeros_size, choose_gives, behind_is, zero_F, zeros_number}
+use Rattle.l2_circuit_laws.proofs.Numbers.{same_sym, same_trans, same_power, values_size, negated_size, number_small, sub_number}
+use Rattle.l2_circuit_laws.proofs.Products.{columns_size, behind_size, zeros_size, choose_gives, behind_is, zero_F, zeros_number}
 
 bit_small : (b : Bool) → bit_number b ≤ 1
 bit_small true = omega arith

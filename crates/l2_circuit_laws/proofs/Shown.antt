@@ -1,19 +1,18 @@
 -- Sums, differences and products of words that show numbers.
-use Rattle.std.proofs.Common.{◌≡◌, ℕ, zero, suc, ◌+◌, ◌-◌, ◌*◌, ◌%◌, ◌^◌, ◌≤◌, ◌<◌, Bool, true, false, not, ℤ, pos, ◌+ℤ◌, ◌-ℤ◌, ◌*ℤ◌, refl, sym, ap, ◌∙◌, subst, List, [], ◌∷◌, length, arith}
+use Rattle.std.proofs.Common.{◌≡◌, ℕ, suc, ◌+◌, ◌-◌, ◌*◌, ◌%◌, ◌^◌, ◌<◌, Bool, true, ℤ, pos, ◌+ℤ◌, ◌-ℤ◌, ◌*ℤ◌, refl, sym, ap, ◌∙◌, subst, List, [], ◌∷◌, length, arith}
 use Rattle.std.proofs.lemmas.Nat.{pow_pos}
 use Rattle.std.proofs.Math.Nat.{mod-lt, mod-eq_of_lt, add-mul-mod_self_right}
 use Rattle.l2_bits.specs.Values.{residue}
-use Rattle.l2_bits.proofs.Congruences.{Meet, meet_trans, meet_add, meet_sub}
+use Rattle.l2_bits.proofs.Congruences.{meet_trans, meet_add, meet_sub}
 use Rattle.l2_bits.proofs.Wraps.{residue-lt, residue-meet}
 use Rattle.l2_bits.proofs.Residues.{residue_only}
 use Rattle.l2_bits.proofs.Products.{residues-meet}
 use Rattle.l2_gates.specs.Gates.{Lit, T, F, Made}
 use Rattle.l2_gates.specs.Models.{value, Ok}
 use Rattle.l2_circuits.specs.declared.columns.Kind.TheVariants.{Add}
-use Rattle.l2_circuits.specs.Words.{Word, Sum, sum, sub, negated_word}
+use Rattle.l2_circuits.specs.Words.{sum, sub, negated_word}
 use Rattle.l2_circuits.specs.Products.{mul}
 use Rattle.l2_circuit_laws.specs.Values.{values, bit_number, number, power, SameSize}
-use Rattle.l2_circuit_laws.specs.Law.{Multiplies}
 use Rattle.l2_circuit_laws.specs.Shows.{Shows, Gains, SumsShow, DifferencesShow, ProductsShow}
 use Rattle.l2_circuit_laws.proofs.Columns.{columns_add}
 use Rattle.l2_circuit_laws.proofs.Numbers.{same_sym, same_trans, same_power, values_size, negated_size, number_small, sum_number, sub_number}
@@ -79,11 +78,11 @@ module _ (v : ℕ → Bool) (truth : v 0 ≡ true) (n : ℕ) where
       let r = sum a b F m in
       let z = columns_size Add a b F m h in
       let e : number (values v r.bits) + power a * bit_number (value v r.carry) ≡ number (values v a) + number (values v b) + 0 =
-          sum_number v truth a b F m h ok ∙ ap (λ k. number (values v a) + number (values v b) + k) (zero_F v truth) in
+      sum_number v truth a b F m h ok ∙ ap (λ k. number (values v a) + number (values v b) + k) (zero_F v truth) in
       let p = power_at a x s in
       let small : number (values v r.bits) < 2 ^ n = subst (λ q. number (values v r.bits) < q) (same_power r.bits a z ∙ p) (small_at v r.bits) in
       let f : number (values v r.bits) + bit_number (value v r.carry) * 2 ^ n ≡ residue (2 ^ n) x + residue (2 ^ n) y =
-          let q = s.number in let u = t.number in subst (λ k. number (values v r.bits) + bit_number (value v r.carry) * k ≡ residue (2 ^ n) x + residue (2 ^ n) y) p (grind arith) in
+      let q = s.number in let u = t.number in subst (λ k. number (values v r.bits) + bit_number (value v r.carry) * k ≡ residue (2 ^ n) x + residue (2 ^ n) y) p (grind arith) in
       record {
         before = (columns_add v truth Add a b F m ok).before;
         shows = record {
@@ -103,7 +102,7 @@ module _ (v : ℕ → Bool) (truth : v 0 ≡ true) (n : ℕ) where
       let small : number (values v r.bits) < 2 ^ n = subst (λ q. number (values v r.bits) < q) (same_power r.bits a z ∙ p) (small_at v r.bits) in
       let under : number (values v b) < 2 ^ n = subst (λ q. number (values v b) < q) (power_at b y t) (small_at v b) in
       let f : number (values v r.bits) + number (values v b) + 2 ^ n * bit_number (value v r.carry) ≡ number (values v a) + 2 ^ n =
-          subst (λ k. number (values v r.bits) + number (values v b) + k * bit_number (value v r.carry) ≡ number (values v a) + k) p e in
+      subst (λ k. number (values v r.bits) + number (values v b) + k * bit_number (value v r.carry) ≡ number (values v a) + k) p e in
       let g = complement (number (values v r.bits)) (number (values v b)) (2 ^ n) (bit_number (value v r.carry)) (number (values v a)) f under in
       record {
         before = (columns_add v truth Add a (negated_word b) T m ok).before;

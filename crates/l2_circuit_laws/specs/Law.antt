@@ -1,7 +1,7 @@
 -- What circuits give in every model of their clauses, and that each model goes on.
-use Rattle.std.specs.Prelude.{◌≡◌, ℕ, ◌+◌, ◌*◌, ◌≤◌, ◌<◌, nat_lt, nat_eq, Bool, true, false, List, [], ◌∷◌}
-use Rattle.l2_gates.specs.Gates.{Lit, Made, Bit}
-use Rattle.l2_gates.specs.Models.{value, chosen, Ok, Below, AllBelow, Sound, Extends, Gives, Makes}
+use Rattle.std.specs.Prelude.{◌≡◌, ℕ, ◌+◌, ◌*◌, ◌<◌, nat_lt, nat_eq, Bool, true, false, List}
+use Rattle.l2_gates.specs.Gates.{Lit, Made}
+use Rattle.l2_gates.specs.Models.{value, Ok, Below, AllBelow, Sound, Extends, Gives}
 use Rattle.l2_circuits.specs.declared.columns.Kind.{Kind}
 use Rattle.l2_circuits.specs.Words.{Word, Sum, columns, sum, sub, ltu, eq, choose}
 use Rattle.l2_circuits.specs.Products.{mul, Divided, divide}

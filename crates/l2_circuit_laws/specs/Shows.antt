@@ -1,10 +1,10 @@
 -- Words that show whole numbers: their bits are those of the number in two's complement.
-use Rattle.std.specs.Prelude.{◌≡◌, ℕ, suc, ◌+◌, ◌-◌, ◌^◌, ◌≤◌, ◌<◌, Bool, true, false, not, int_lt, ℤ, pos, neg_ℤ, ◌+ℤ◌, ◌-ℤ◌, ◌*ℤ◌, ◌≤ℤ◌, ◌<ℤ◌, List, length}
+use Rattle.std.specs.Prelude.{◌≡◌, ℕ, ◌-◌, ◌^◌, ◌≤◌, Bool, true, false, not, int_lt, ℤ, pos, neg_ℤ, ◌+ℤ◌, ◌-ℤ◌, ◌*ℤ◌, ◌≤ℤ◌, ◌<ℤ◌, List, length}
 use Rattle.std.specs.Ordering.{int_eq}
 use Rattle.l2_bits.specs.Values.{residue}
 use Rattle.l2_gates.specs.Gates.{Lit, F, Made}
-use Rattle.l2_gates.specs.Models.{value, Ok, Gives}
-use Rattle.l2_circuits.specs.Words.{Word, Sum, sum, sub, less, less_equal, eq, constant, extended}
+use Rattle.l2_gates.specs.Models.{Ok, Gives}
+use Rattle.l2_circuits.specs.Words.{sum, sub, less, less_equal, eq, constant, extended}
 use Rattle.l2_circuits.specs.Products.{mul}
 use Rattle.l2_circuit_laws.specs.Values.{values, number}
 

@@ -1,5 +1,5 @@
 -- Words as lists of truth values, and as numbers; and what circuits that go bit by bit compute of them.
-use Rattle.std.specs.Prelude.{ℕ, ◌+◌, ◌*◌, Bool, true, false, not, List, [], ◌∷◌, map}
+use Rattle.std.specs.Prelude.{ℕ, ◌+◌, ◌*◌, Bool, true, false, not, List, [], ◌∷◌}
 use Rattle.l2_gates.specs.Gates.{Lit}
 use Rattle.l2_gates.specs.Models.{value, both, some_of, differ, chosen}
 use Rattle.l2_circuits.specs.declared.columns.Kind.{Kind}

@@ -1,4 +1,4 @@
-//! The laws.
+//! What circuits make of the values of their literals, and that they are made.
 ghost use Rattle.l2_circuit_laws.specs.Law.{ColumnsHaveValues, ColumnsAreMade, SumsAre, DifferencesAre, LessIs, EqualIs, ChoicesAre, ProductsAre, QuotientsAre};
 
 /// In each model of the clauses in which variable 1 is true, a circuit that goes bit by bit computes what its columns do.

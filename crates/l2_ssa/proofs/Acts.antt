@@ -1,21 +1,16 @@
 -- What a solution shows of a single instruction.
-use Rattle.std.proofs.Common.{arith, ◌≡◌, ◌⊎◌, inl, inr, ℕ, zero, suc, ◌+◌, ◌<◌, ◌≤◌, ℤ, Bool, true, false, not, refl, sym, ap, ◌∙◌, subst, List, [], ◌∷◌, ◌++◌, length, Option, Some, None, IfSome, cond}
+use Rattle.std.proofs.Common.{arith, ◌≡◌, ℕ, zero, suc, ◌+◌, ◌<◌, ◌≤◌, Bool, true, false, not, refl, sym, ap, ◌∙◌, subst, List, [], ◌∷◌, ◌++◌, length, Option, Some, None, IfSome, cond}
 use Rattle.std.specs.Prelude.{◌&&◌, ◌||◌, ◌==◌, pos, ◌+ℤ◌}
 use Rattle.std.proofs.lemmas.Bool.{eqb-true}
-use Rattle.l2_bits.specs.Values.{wrap}
 use Rattle.l2_bits.specs.Operators.{breaks_division, breaks_shift, overflows}
 use Rattle.l2_runs.specs.declared.cells.CellType.{CellType}
-use Rattle.l2_runs.specs.declared.cells.CellType.TheVariants.{Integer, Pointer}
+use Rattle.l2_runs.specs.declared.cells.CellType.TheVariants.{Pointer}
 use Rattle.l2_runs.specs.declared.cells.CellValue.{CellValue}
 use Rattle.l2_runs.specs.declared.cells.CellValue.TheVariants.{Number, Null, Invalid, At}
 use Rattle.l2_runs.specs.declared.member.Member.{Member}
 use Rattle.l2_runs.specs.declared.member.Member.TheVariants as member
-use Rattle.l2_runs.specs.declared.outcome.Outcome.TheVariants.{Stopped}
 use Rattle.l2_runs.specs.Members.{targets, Within}
-use Rattle.l2_runs.specs.Operators.{truth}
-use Rattle.l2_runs.specs.Store as runs
-use Rattle.l2_runs.specs.Store.{Store, object_at}
-use Rattle.l2_runs.specs.Runs.{End, Over, Fallen}
+use Rattle.l2_runs.specs.Store.{Store}
 use Rattle.l2_code.specs.declared.action.Operand.{Operand}
 use Rattle.l2_code.specs.declared.action.Operand.TheVariants.{Constant, Temp}
 use Rattle.l2_code.specs.declared.action.Test.{Test}
@@ -24,16 +19,12 @@ use Rattle.l2_code.specs.declared.action.Computation.{Computation}
 use Rattle.l2_code.specs.declared.action.Computation.TheVariants.{Numbers, Convert, Move, Pointers, Passes}
 use Rattle.l2_code.specs.Values as values
 use Rattle.l2_code.specs.Values.{Types, Temps, operand_value, is_true, compute, operate, on_numbers, converted, moved, on_pointers, passes, is_not_dead}
-use Rattle.l2_code.specs.Machine.{Way, On, Out}
-use Rattle.l2_code.specs.Sets.{Family, may_be}
+use Rattle.l2_code.specs.Sets.{may_be}
 use Rattle.l2_code.specs.WellFormed.{Scope, Names as CodeNames, IsConstant, IsOperand, IsTypedComputation, IsTypedTest}
 use Rattle.l2_code_laws.specs.Holding.{TempsHold}
-use Rattle.l2_supply.specs.Supply.{Supply, left, right, number_of, Place, Come, Goes, Ends}
-use Rattle.l2_ssa.specs.Steps.{Step, Compute, Alive, Names, on, bit, Meaning, Holds, looked_at, LooksInto, is_alive, Flag}
-use Rattle.l2_ssa.specs.Walks as walks
-use Rattle.l2_ssa.specs.Walks.{Setting, Slot, Walk, slot_at, now, test_now, computation_now, set_of, flags_of, compute_step}
-use Rattle.l2_ssa.proofs.Shows.{SlotsRead, Sized, Stands}
-use Rattle.l2_ssa.proofs.Labels.{bit_on}
+use Rattle.l2_ssa.specs.Steps.{Compute, Names, on, bit, Meaning, Holds, looked_at, LooksInto, is_alive, Flag}
+use Rattle.l2_ssa.specs.Walks.{Setting, Slot, Walk, slot_at, now, computation_now, set_of, flags_of, compute_step}
+use Rattle.l2_ssa.proofs.Shows.{SlotsRead}
 use Rattle.l2_ssa.proofs.Slots.{slot_reads}
 
 -- ---- live flags
@@ -74,8 +65,10 @@ module _ (s : Names) (set : Member → Bool) (slots : List Slot) (o i : ℕ) whe
     where
       differs : (o == o0) ≡ false → (o == o0) ≡ (o0 == o0) → ⊥
       differs p y = let r : (o0 == o0) ≡ true = grind arith in cc
+
       above : (o == o0) ≡ false → suc o0 ≤ o
       above p = grind arith
+
       go : (x : Bool) → (o == o0) ≡ x → (suc o0 ≤ o → o < suc o0 + k → is_alive s (At o i) (flags_of set slots (suc o0) k) ≡ on s (slot_at slots o).live)
           → is_alive s (At o i) (flags_of set slots o0 (suc k)) ≡ on s (slot_at slots o).live
       go true q next = subst (λ z. is_alive s (At o i) (flags_of set slots z (suc k)) ≡ on s (slot_at slots o).live) (eqb-true o o0 q)

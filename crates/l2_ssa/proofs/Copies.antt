@@ -1,24 +1,22 @@
 -- What a solution shows of the copies of a loop's turn.
-use Rattle.std.proofs.Common.{arith, ◌≡◌, ◌⊎◌, inl, inr, ℕ, zero, suc, Bool, true, false, not, refl, sym, ap, ◌∙◌, subst, List, [], ◌∷◌, ◌++◌, Option, Some, None}
+use Rattle.std.proofs.Common.{◌≡◌, ℕ, zero, suc, Bool, true, false, not, refl, sym, ap, ◌∙◌, subst, List, [], ◌∷◌, Option, Some, None}
 use Rattle.std.specs.Prelude.{◌&&◌}
 use Rattle.l2_runs.specs.declared.outcome.Outcome.TheVariants.{Stopped}
 use Rattle.l2_runs.specs.Store.{Store}
-use Rattle.l2_runs.specs.Runs.{End, Over, Fallen, Result, Go, Halt, on_go, done}
-use Rattle.l2_runs.specs.Loops.{Test, events, or_events}
+use Rattle.l2_runs.specs.Runs.{Over, Result, Go, Halt, on_go, done}
+use Rattle.l2_runs.specs.Loops.{events, or_events}
 use Rattle.l2_code.specs.declared.action.Operand.{Operand}
-use Rattle.l2_code.specs.declared.action.Operand.TheVariants.{Temp}
 use Rattle.l2_code.specs.Values.{Temps, operand_value, is_true}
 use Rattle.l2_code.specs.Machine.{Way, On, Out, close}
-use Rattle.l2_code_laws.specs.Holding.{StoreHolds}
 use Rattle.l2_supply.specs.Supply.{Supply, left, right, Place, place_of, at, Come, Goes, Ends, Supplied, on_goes, then_with, come_of}
 use Rattle.l2_supply.specs.Going.{stops, seen, next_with, stop_with, tested_with, rounds_with, later_with}
-use Rattle.l2_ssa.specs.Steps.{Step, Apart, Names, on, bit, Meaning, Solves}
+use Rattle.l2_ssa.specs.Steps.{Step, Names, on, Meaning, Solves}
 use Rattle.l2_ssa.specs.Walks as walks
 use Rattle.l2_ssa.specs.Walks.{Setting, Slot, Walk, Frame, Last, Early, Given, pair, nothing, Kind, past, joined, is_last, copy_frame, count_steps, count_name, behind, walk_copies, end_turn, with_path}
-use Rattle.l2_ssa.specs.Law.{tests_of, tests}
+use Rattle.l2_ssa.specs.Law.{Matches, tests_of, tests}
 use Rattle.l2_ssa.proofs.Shows.{Spot, Off, At, Start, Nowhere, Standing, Stands, Begins, Shows, Stops, Follows, joined_shows, joined_stops, solves_first, solves_second}
 use Rattle.l2_ssa.proofs.Labels.{bit_on}
-use Rattle.l2_ssa.proofs.Frames.{Matches, outs_of, let_out, allow, NotStuck}
+use Rattle.l2_ssa.proofs.Frames.{outs_of, let_out, allow, NotStuck}
 use Rattle.l2_ssa.proofs.Turns.{Closes, turn_close, turn_off}
 
 -- ---- both ways of copies in one
@@ -98,13 +96,13 @@ module _ (m : Meaning) (s : Names) (g : Setting) (types : m.types ≡ g.types) (
   end_shows et rest p (Go u st) true next v outs h ns go off =
       subst (λ q. Show (joined nothing et rest) (allow outs (way_of (next v q)))) (sym h.closed.0)
       (joined_shows m s g nothing et rest (Goes (On (λ i. operand_value s (et.after.temps i))) p) (λ t q. allow outs (way_of (next v p)))
-          (record { after = record { stands = h.closed.1; temps = λ i. refl }; entries = h.entries; events = h.closed.2 })
-          (go (subst (λ q. NotStuck (next v q)) h.closed.0 ns) h.closed.1))
+      (record { after = record { stands = h.closed.1; temps = λ i. refl }; entries = h.entries; events = h.closed.2 })
+      (go (subst (λ q. NotStuck (next v q)) h.closed.0 ns) h.closed.1))
   end_shows et rest p (Go u st) false next v outs h ns go off =
       subst (λ q. Show (joined nothing et rest) (allow outs (way_of (next v q)))) (sym h.closed.0)
       (joined_shows m s g nothing et rest (Goes (On (λ i. operand_value s (et.after.temps i))) p) (λ t q. allow outs (way_of (next v p)))
-          (record { after = record { stands = h.closed.1; temps = λ i. refl }; entries = h.entries; events = h.closed.2 })
-          (go (subst (λ q. NotStuck (next v q)) h.closed.0 ns) h.closed.1))
+      (record { after = record { stands = h.closed.1; temps = λ i. refl }; entries = h.entries; events = h.closed.2 })
+      (go (subst (λ q. NotStuck (next v q)) h.closed.0 ns) h.closed.1))
   end_shows et rest p (Halt e st) lv next v outs h ns go off =
       joined_shows m s g nothing et rest (Ends e (place_of st)) (λ t q. Ends e (place_of st))
       (record { after = record { stands = h.closed.0; temps = tt }; entries = h.entries; events = h.closed.1 }) (off h.closed.0)
@@ -112,7 +110,7 @@ module _ (m : Meaning) (s : Names) (g : Setting) (types : m.types ≡ g.types) (
   module _ (l : ℕ) (body : Frame → Operand → ℕ → Walk → walks.Out) (turn : Bool → Supplied Way) (fs : List Frame) (temps : ℕ → Operand) (t : Temps) (same : (i : ℕ) → operand_value s (temps i) ≡ t i)
       (Inv : Store → Type 0)
       (body_shows : (f : Frame) (d : Operand) (n : ℕ) (w : Walk) (p : Place) (u : Supply) → Begins m s g w (Standing t p) → Inv p.store → Solves m s n (body f d n w).steps → Matches s (body f d n w).given u
-          → NotStuck (turn (on s d) u p) → Show (body f d n w) (allow (outs_of s (f ∷ fs)) (turn (on s d) u p)))
+      → NotStuck (turn (on s d) u p) → Show (body f d n w) (allow (outs_of s (f ∷ fs)) (turn (on s d) u p)))
       (body_stops : (f : Frame) (d : Operand) (n : ℕ) (w : Walk) → Stand w.path w.slots Off → Solves m s n (body f d n w).steps → Stop (body f d n w))
       (body_holds : (c : Bool) (u : Supply) (p : Place) → Inv p.store → ComeHolds Inv (turn c u p)) where
     abbrev pub tested : Bool → Supplied (Unit {0} × Option ℕ)
@@ -157,7 +155,7 @@ module _ (m : Meaning) (s : Names) (g : Setting) (types : m.types ≡ g.types) (
     copy_shows last z b q d old next v given o rest (Goes (Out j) p) h ns inv go off =
         subst (Show (joined given o rest)) (let_out_then (outs_of s (copy_frame last b ∷ fs) j) j p (λ t q. Ends (Over Stopped) q) ∙ out_same last z b j p next v q)
         (joined_shows m s g given o rest (let_out (outs_of s (copy_frame last b ∷ fs) j) j p) (λ t q. Ends (Over Stopped) q) h
-            (out_follows (outs_of s (copy_frame last b ∷ fs) j) j p (λ t q. Ends (Over Stopped) q) rest (off (out_off (outs_of s (copy_frame last b ∷ fs) j) j p o h))))
+        (out_follows (outs_of s (copy_frame last b ∷ fs) j) j p (λ t q. Ends (Over Stopped) q) rest (off (out_off (outs_of s (copy_frame last b ∷ fs) j) j p o h))))
     copy_shows last z b q d old next v given o rest (Ends e p) h ns inv go off =
         joined_shows m s g given o rest (Ends e p) (λ t q. Ends e p) h (off h.after.stands)
 
@@ -211,13 +209,13 @@ module _ (m : Meaning) (s : Names) (g : Setting) (types : m.types ≡ g.types) (
             let ns' = subst (λ y. NotStuck (whole y p.store (leaves (is_last k) z) next (right u) (turn y (left u) p))) (sym dc) ns in
             behind_shows (w.path ∷ []) x (joined (pair o.given rest.given) o (joined nothing et rest)) _
             (subst (λ y. Show (joined (pair o.given rest.given) o (joined nothing et rest)) (allow (outs_of s fs) (way_of (whole y p.store (leaves (is_last k) z) next (right u) (turn y (left u) p))))) dc
-                (copy_shows (is_last k) z b back (on s d) p.store next (right u) (pair o.given rest.given) o (joined nothing et rest) (turn (on s d) (left u) p)
-                    (body_shows (copy_frame (is_last k) b) d (past n x) (record w { temps = temps }) p (left u) (record { stands = h; temps = same }) inv (solves_first m s g (past n x) o.steps _ ok1) mt.0
-                        (unstuck (on s d) p.store (leaves (is_last k) z) next (right u) (turn (on s d) (left u) p) ns'))
-                    ns' (body_holds (on s d) (left u) p inv)
-                    (λ p' inv' st nst. end_shows et rest p' (events (on s d) l (tests_of m.row m.lower g (g.kind l) l) p.store (at p' [] 0)) (leaves (is_last k) z) next (right u) (outs_of s fs)
-                        (turn_close m s g types plain (g.kind l) d (on s d) refl l w.slots p.store n1 o.after p' st oke) nst
-                        (λ nsn stn. copies_show k (past n1 et.steps) et.after p' (right u) stn inv' okq mt.1 nsn)
-                        (λ off. copies_stop k (past n1 et.steps) et.after off okq))
-                    (λ off. let se = turn_off m s g types plain (g.kind l) d l w.slots n1 o.after off oke in
-                        joined_stops m s g nothing et rest se (copies_stop k (past n1 et.steps) et.after se.after okq))))
+            (copy_shows (is_last k) z b back (on s d) p.store next (right u) (pair o.given rest.given) o (joined nothing et rest) (turn (on s d) (left u) p)
+            (body_shows (copy_frame (is_last k) b) d (past n x) (record w { temps = temps }) p (left u) (record { stands = h; temps = same }) inv (solves_first m s g (past n x) o.steps _ ok1) mt.0
+            (unstuck (on s d) p.store (leaves (is_last k) z) next (right u) (turn (on s d) (left u) p) ns'))
+            ns' (body_holds (on s d) (left u) p inv)
+            (λ p' inv' st nst. end_shows et rest p' (events (on s d) l (tests_of m.row m.lower g (g.kind l) l) p.store (at p' [] 0)) (leaves (is_last k) z) next (right u) (outs_of s fs)
+            (turn_close m s g types plain (g.kind l) d (on s d) refl l w.slots p.store n1 o.after p' st oke) nst
+            (λ nsn stn. copies_show k (past n1 et.steps) et.after p' (right u) stn inv' okq mt.1 nsn)
+            (λ off. copies_stop k (past n1 et.steps) et.after off okq))
+            (λ off. let se = turn_off m s g types plain (g.kind l) d l w.slots n1 o.after off oke in
+            joined_stops m s g nothing et rest se (copies_stop k (past n1 et.steps) et.after se.after okq))))

@@ -1,30 +1,18 @@
 -- Jumps out of loops, and the names that choices give.
-use Rattle.std.proofs.Common.{arith, ◌≡◌, ℕ, zero, suc, Bool, true, false, not, refl, sym, ap, ◌∙◌, subst, List, [], ◌∷◌}
-use Rattle.std.specs.Prelude.{◌&&◌, pos}
-use Rattle.std.specs.Ordering.{int_eq}
-use Rattle.l2_bits.specs.Values.{wrap}
-use Rattle.l2_runs.specs.declared.cells.CellValue.TheVariants.{Number}
+use Rattle.std.proofs.Common.{◌≡◌, ℕ, zero, suc, Bool, true, false, not, refl, ap, ◌∙◌, List, [], ◌∷◌}
+use Rattle.std.specs.Prelude.{◌&&◌}
 use Rattle.l2_runs.specs.declared.outcome.Outcome.TheVariants.{Stopped}
-use Rattle.l2_runs.specs.Runs.{End, Over, Fallen}
+use Rattle.l2_runs.specs.Runs.{Over, Fallen}
 use Rattle.l2_code.specs.declared.action.Operand.{Operand}
 use Rattle.l2_code.specs.declared.action.Operand.TheVariants.{Temp}
 use Rattle.l2_code.specs.Values.{is_true}
 use Rattle.l2_code.specs.Machine.{Way, On, Out}
-use Rattle.l2_supply.specs.Supply.{Supply, left, right, number_of, Place, Come, Goes, Ends}
-use Rattle.l2_ssa.specs.Steps.{Step, Names, on, bit, Meaning, Solves}
-use Rattle.l2_ssa.specs.Walks.{Frame, Block, Last, Early, Given, nothing, entering, chosen, taken, half, pair, leave_steps, leave_path}
+use Rattle.l2_supply.specs.Supply.{Place, Come, Goes, Ends}
+use Rattle.l2_ssa.specs.Steps.{Names, on, Meaning, Solves}
+use Rattle.l2_ssa.specs.Walks.{Frame, Block, Last, Early, leave_steps, leave_path}
 use Rattle.l2_ssa.proofs.Labels.{bit_on}
 
 module _ (s : Names) where
-  -- the names are those that a supply gives
-  abbrev pub Matches : Given → Supply → Type 0
-  Matches nothing u = Unit {0}
-  Matches entering u = int_eq (number_of u) (pos 0) ≡ true
-  Matches (chosen n) u = s n ≡ bit (not (int_eq (number_of u) (pos 0)))
-  Matches (taken n ty) u = s n ≡ Number (wrap ty (number_of u))
-  Matches (half n) u = s n ≡ Number (number_of u)
-  Matches (pair x y) u = Matches x (left u) × Matches y (right u)
-
   -- whether a jump to this depth is let out of the copies round it
   abbrev pub outs_of : List Frame → ℕ → Bool
   outs_of [] n = true

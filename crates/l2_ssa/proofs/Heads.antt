@@ -1,30 +1,28 @@
 -- What a solution shows at a loop's head.
-use Rattle.std.proofs.Common.{arith, ◌≡◌, ℕ, zero, suc, ◌+◌, ℤ, Bool, true, false, not, refl, sym, ap, ◌∙◌, subst, List, [], ◌∷◌, ◌++◌, Option, Some, None, IfSome, pos}
-use Rattle.std.specs.Prelude.{◌&&◌, ◌||◌}
+use Rattle.std.proofs.Common.{◌≡◌, ℕ, zero, suc, Bool, true, false, not, refl, sym, ap, ◌∙◌, subst, List, [], ◌∷◌, Option, Some, None, IfSome}
+use Rattle.std.specs.Prelude.{◌&&◌}
 use Rattle.l2_bits.specs.Values.{wrap}
 use Rattle.l2_runs.specs.declared.cells.CellType.{CellType}
 use Rattle.l2_runs.specs.declared.cells.CellType.TheVariants.{Integer, Pointer}
 use Rattle.l2_runs.specs.declared.cells.CellValue.{CellValue}
 use Rattle.l2_runs.specs.declared.cells.CellValue.TheVariants.{Number}
 use Rattle.l2_runs.specs.declared.outcome.Outcome.TheVariants.{Ended, Stopped, Broken, OutOfChoices, OutOfTurns}
-use Rattle.l2_runs.specs.Store as runs
 use Rattle.l2_runs.specs.Store.{Store}
 use Rattle.l2_runs.specs.Members.{is_in}
-use Rattle.l2_runs.specs.Runs.{End, Over, Fallen, done, stop, either, write}
+use Rattle.l2_runs.specs.Runs.{Over, Fallen, done, stop, either, write}
 use Rattle.l2_runs.specs.Back.{pointer_of, on_member}
 use Rattle.l2_code.specs.declared.action.Operand.{Operand}
 use Rattle.l2_code.specs.declared.action.Operand.TheVariants.{Temp}
 use Rattle.l2_code.specs.Values.{operand_value, is_true}
 use Rattle.l2_supply.specs.Supply.{Supply, left, right, number_of, Place, at, Come, Goes, Ends, on_goes, then_with, come_of}
 use Rattle.l2_supply.specs.Going.{any_with, cells_with, scatter_with}
-use Rattle.l2_ssa.specs.Steps.{Step, Row, But, Names, on, bit, Meaning, Holds, Solves, is_among, number_in, values_of}
+use Rattle.l2_ssa.specs.Steps.{Row, Names, on, bit, Meaning, Holds, Solves, is_among, number_in, values_of}
 use Rattle.l2_ssa.specs.Walks as walks
 use Rattle.l2_ssa.specs.Walks.{Setting, Slot, Walk, past, joined, goes_on, with_cell, with_path, scatter_one, scatter_cells, scatter, head_rows, vars_now}
-use Rattle.l2_ssa.specs.Law.{first_cells, row_holds, rows_hold}
-use Rattle.l2_ssa.proofs.Shows.{Spot, Off, At, SlotsRead, Sized, Stands, solves_first, solves_second}
+use Rattle.l2_ssa.specs.Law.{Matches, first_cells, row_holds, rows_hold}
+use Rattle.l2_ssa.proofs.Shows.{Spot, Off, At, SlotsRead, Stands, solves_first, solves_second}
 use Rattle.l2_ssa.proofs.Labels.{bit_on}
 use Rattle.l2_ssa.proofs.Slots.{cell_reads, cell_writes, cell_stays, sized_cell}
-use Rattle.l2_ssa.proofs.Frames.{Matches}
 
 abbrev pub spot_if : Bool → Store → Spot
 spot_if true st = At st
@@ -53,9 +51,11 @@ module _ (m : Meaning) (s : Names) (g : Setting) (types : m.types ≡ g.types) w
     entry_one : (o f : ℕ) (t : CellType) (n : ℕ) (w : Walk) (st : Store) → Stand w.path w.slots (At st) → Solves m s n (scatter_one g p b o f t n w).steps
         → Stand (scatter_one g p b o f t n w).after.path (scatter_one g p b o f t n w).after.slots (At st)
     entry_one o f (Integer ty) n w st h ok = (h.0, sized_cell m s g w o f (Temp (suc n)) h.1, stays_one w st o f (suc n) (Temp n) h (ok.1.0.1 guard entry))
-    entry_one o f Pointer n w st h ok =
-        (path_stays w _ _ (Temp (suc (suc (suc (suc n))))) ok.1.1.1.1.1.0 ok.1.1.1.1.1.1.0 ∙ h.0,
-         sized_cell m s g w o f (Temp (suc (suc (suc n)))) h.1, stays_one w st o f (suc (suc (suc n))) (Temp n) h (ok.1.1.1.0.1 guard entry))
+    entry_one o f Pointer n w st h ok = (
+      path_stays w _ _ (Temp (suc (suc (suc (suc n))))) ok.1.1.1.1.1.0 ok.1.1.1.1.1.1.0 ∙ h.0,
+      sized_cell m s g w o f (Temp (suc (suc (suc n)))) h.1,
+      stays_one w st o f (suc (suc (suc n))) (Temp n) h (ok.1.1.1.0.1 guard entry),
+    )
 
     entry_cells : (o f : ℕ) (ts : List CellType) (n : ℕ) (w : Walk) (st : Store) → Stand w.path w.slots (At st) → Solves m s n (scatter_cells g p b o f ts n w).steps
         → Stand (scatter_cells g p b o f ts n w).after.path (scatter_cells g p b o f ts n w).after.slots (At st)
@@ -115,13 +115,14 @@ module _ (m : Meaning) (s : Names) (g : Setting) (types : m.types ≡ g.types) w
         → s (suc (suc (suc (suc (suc n))))) ≡ bit (on s b && not (on s (Temp (suc (suc (suc (suc n)))))))
         → s (suc (suc (suc (suc (suc (suc n)))))) ≡ bit (on s w.path && not (on s (Temp (suc (suc (suc (suc (suc n))))))))
         → Lands (Temp (suc (suc (suc (suc (suc (suc n))))))) (with_cell w o f (Temp (suc (suc (suc n))))).slots
-          (on_goes (come_of (on_member (g.family.object o) x done (at q [] 0))) (λ y. Rattle.l2_supply.specs.Supply.without (write (record { object = o; offset = f }) y) v))
+        (on_goes (come_of (on_member (g.family.object o) x done (at q [] 0))) (λ y. Rattle.l2_supply.specs.Supply.without (write (record { object = o; offset = f }) y) v))
     pointer_lands o f n w q None v h point merge among y next =
         (on_but (suc (suc (suc (suc (suc (suc n)))))) w.path (Temp (suc (suc (suc (suc (suc n)))))) next ∙ (λ i. h.0 i && not ((on_but (suc (suc (suc (suc (suc n))))) b (Temp (suc (suc (suc (suc n))))) y ∙ (λ j. back j && not ((ap is_true among ∙ bit_on false) j))) i)), sized_cell m s g w o f (Temp (suc (suc (suc n)))) h.1)
     pointer_lands o f n w q (Some x) v h point merge among y next = go (is_in (g.family.object o) x) among
       where
         y_is : (t : Bool) → s (suc (suc (suc (suc n)))) ≡ bit t → on s (Temp (suc (suc (suc (suc (suc (suc n))))))) ≡ (true && not (true && not t))
         y_is t e = on_but (suc (suc (suc (suc (suc (suc n)))))) w.path (Temp (suc (suc (suc (suc (suc n)))))) next ∙ (λ i. h.0 i && not ((on_but (suc (suc (suc (suc (suc n))))) b (Temp (suc (suc (suc (suc n))))) y ∙ (λ j. back j && not ((ap is_true e ∙ bit_on t) j))) i))
+
         go : (t : Bool) → s (suc (suc (suc (suc n)))) ≡ bit t → Lands (Temp (suc (suc (suc (suc (suc (suc n))))))) (with_cell w o f (Temp (suc (suc (suc n))))).slots
             (on_goes (come_of (either t (done x) stop (at q [] 0))) (λ y. Rattle.l2_supply.specs.Supply.without (write (record { object = o; offset = f }) y) v))
         go true e = (y_is true e, sized_cell m s g w o f (Temp (suc (suc (suc n)))) h.1, cell_writes m s g w q.store o f (Temp (suc (suc (suc n)))) x h.2 (merge ∙ point))
@@ -166,9 +167,9 @@ module _ (m : Meaning) (s : Names) (g : Setting) (types : m.types ≡ g.types) w
         subst (λ e. Lands (scatter_cells g p b o f (t ∷ ts) n w).after.path (scatter_cells g p b o f (t ∷ ts) n w).after.slots e)
         (sym (regroup (any_with g.types.objects (g.family.object o) t (left u) q) (λ y. Rattle.l2_supply.specs.Supply.without (write (record { object = o; offset = f }) y) (left (right u))) (λ z q. cells_with g.types.objects (g.family.object o) o (suc f) ts (right (right u)) q)))
         (lands_then x.after.path x.after.slots (one_with o f t (left u) (left (right u)) q) (λ q. cells_with g.types.objects (g.family.object o) o (suc f) ts (right (right u)) q) y.after.path y.after.slots
-            (back_one o f t n w q (left u) (left (right u)) h (solves_first m s g n x.steps _ ok) mt.0)
-            (λ q k. back_cells o (suc f) ts (past n x.steps) x.after q (right (right u)) k ok2 mt.1.1)
-            (λ k. off_cells p b o (suc f) ts (past n x.steps) x.after k ok2))
+        (back_one o f t n w q (left u) (left (right u)) h (solves_first m s g n x.steps _ ok) mt.0)
+        (λ q k. back_cells o (suc f) ts (past n x.steps) x.after q (right (right u)) k ok2 mt.1.1)
+        (λ k. off_cells p b o (suc f) ts (past n x.steps) x.after k ok2))
 
     pub back_all : (os : List ℕ) (n : ℕ) (w : Walk) (q : Place) (u : Supply) → Stand w.path w.slots (At q.store) → Solves m s n (scatter g p b os n w).steps → Matches s (scatter g p b os n w).given u
         → Lands (scatter g p b os n w).after.path (scatter g p b os n w).after.slots (scatter_with g.types.objects g.family.object os u q)
@@ -213,6 +214,7 @@ module _ (m : Meaning) (s : Names) (g : Setting) (types : m.types ≡ g.types) w
     where
       path_is : (x : Bool) → row_holds m.row g l i st ≡ x → on s (Temp (suc (suc n))) ≡ not (true && not x)
       path_is x q = row_path p b l i n w st guard h ok.0 ok.1.0 ok.1.1.0 ∙ (λ j. not (back j && not (q j)))
+
       go : (x : Bool) → row_holds m.row g l i st ≡ x → (x && rows_hold m.row g l (suc i) more st) ≡ t
           → (Stand (Temp (suc (suc n))) w.slots (At st) → rows_hold m.row g l (suc i) more st ≡ t → Stand (head_rows g p b l i (suc more) n w).walk.path (head_rows g p b l i (suc more) n w).walk.slots (spot_if t st))
           → Stand (head_rows g p b l i (suc more) n w).walk.path (head_rows g p b l i (suc more) n w).walk.slots (spot_if t st)

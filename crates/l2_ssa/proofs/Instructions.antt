@@ -1,6 +1,6 @@
 -- What a solution shows of each instruction.
-use Rattle.std.proofs.Common.{arith, ◌≡◌, ◌⊎◌, inl, inr, ℕ, zero, suc, ◌+◌, ◌<◌, ◌≤◌, Bool, true, false, not, refl, sym, ap, ◌∙◌, subst, List, [], ◌∷◌, ◌++◌, length, Option, Some, None, IfSome, cond}
-use Rattle.std.specs.Prelude.{◌&&◌, ◌||◌, ◌==◌, pos, slice_get}
+use Rattle.std.proofs.Common.{arith, ◌≡◌, inl, inr, ℕ, suc, ◌+◌, ◌<◌, ◌≤◌, Bool, true, false, not, refl, sym, ap, ◌∙◌, subst, List, [], ◌∷◌, length, Option, Some, None, IfSome, cond}
+use Rattle.std.specs.Prelude.{◌&&◌, ◌||◌, ◌==◌, slice_get}
 use Rattle.l2_bits.specs.Values.{wrap}
 use Rattle.l2_runs.specs.declared.cells.CellType.{CellType}
 use Rattle.l2_runs.specs.declared.cells.CellValue.{CellValue}
@@ -19,7 +19,7 @@ use Rattle.l2_code.specs.declared.action.Action.{Action}
 use Rattle.l2_code.specs.declared.action.Action.TheVariants as action
 use Rattle.l2_code.specs.Values as values
 use Rattle.l2_code.specs.Values.{Temps, operand_value, is_true, cell_of, compute}
-use Rattle.l2_code.specs.Machine.{Way, On, Out, or_stuck, computed}
+use Rattle.l2_code.specs.Machine.{Way, On, Out, or_stuck}
 use Rattle.l2_code.specs.Sets.{IsClosedAction}
 use Rattle.l2_code.specs.WellFormed.{Scope, IsTypedAction}
 use Rattle.l2_code_laws.specs.Holding.{StoreHolds}
@@ -27,14 +27,15 @@ use Rattle.l2_supply.specs.Supply.{Supply, number_of, Place, at, Come, Goes, End
 use Rattle.l2_supply.specs.Going as going
 use Rattle.l2_supply.specs.Going.{Heads, act_with}
 use Rattle.l2_ssa.specs.Steps.{Step, Both, But, Names, on, bit, Solves}
+use Rattle.l2_ssa.specs.Law.{Matches}
 use Rattle.l2_ssa.specs.Walks as walks
 use Rattle.l2_ssa.specs.Walks.{Setting, Walk, Frame, Given, nothing, CheckGoal, past, stepped, goes_on, now, read_at, write_at, write_steps, candidates, zero_of, leave_steps, leave_path, on_unless, on_goto, on_check, walk_action, with_path, with_live, with_cell, compute_step}
-use Rattle.l2_ssa.proofs.Shows.{Spot, Off, At, Start, Nowhere, Standing, SlotsRead, Sized, Stands, TempsShow, Begins, AllShut, OneOpen, AllFalse, OneIf, Shows, Stops, solves_first, solves_second, is_shown}
+use Rattle.l2_ssa.proofs.Shows.{Spot, Off, At, Start, Standing, SlotsRead, Stands, TempsShow, Begins, OneIf, Shows, Stops, solves_first, solves_second}
 use Rattle.l2_ssa.proofs.Labels.{bit_on}
 use Rattle.l2_ssa.proofs.Slots.{cell_reads, cell_writes, live_writes, sized_cell, sized_live}
 use Rattle.l2_ssa.proofs.Acts.{meaning, names, Held, operand_now, step_value}
 use Rattle.l2_ssa.proofs.Reaches.{Found, found, is_candidate, cell_set, read_gives, write_gives, write_sized, write_path, write_temps}
-use Rattle.l2_ssa.proofs.Frames.{Matches, outs_of, leave_gives, let_out, allow, NotStuck}
+use Rattle.l2_ssa.proofs.Frames.{outs_of, leave_gives, let_out, allow, NotStuck}
 
 has_length : (ts : List CellType) (i : ℕ) (u : CellType) → slice_get ts i ≡ Some u → 0 < length ts
 has_length [] i u e = cc
@@ -106,7 +107,7 @@ module _ (row : ℕ → ℕ → List CellValue → Bool) (lower : ℕ → List C
         read_gives m s g (w.temps i) ty ad.object ad.offset (h.temps i ∙ k.is) w (runs.cell_at p.store ad) (candidates g (g.family.temp i) ty 1 g.objects) (zero_of ty) n h.stands.0
         (cell_reads m s g w.slots p.store ad.object ad.offset h.stands.2) ok
         (inr (is_candidate g (g.family.temp i) ty ad.object ad.offset k.type k.there k.same
-            (held.sets i (member.Object ad.object) (subst (λ (v : CellValue). targets v (member.Object ad.object) ≡ true) (sym k.is) (grind arith))) 1 g.objects z.0 z.1))
+        (held.sets i (member.Object ad.object) (subst (λ (v : CellValue). targets v (member.Object ad.object) ≡ true) (sym k.is) (grind arith))) 1 g.objects z.0 z.1))
 
     read_case : (i : ℕ) (ty : CellType) (a : Operand) (x : Option Address) → IfSome x (Found g.types.objects ty (operand_value t a)) → Solves m s n (read_at g w ty a n).steps
         → NotStuck (come_of (on_go (or_stuck x (at p [] 0)) (λ ad. and_then (r.read ad) (λ v. done (On (values.with_temp t i v))))))
@@ -123,9 +124,11 @@ module _ (row : ℕ → ℕ → List CellValue → Bool) (lower : ℕ → List C
 
     value_written : (ty : CellType) (a x : Operand) (ad : Address) → Found g.types.objects ty (operand_value t a) ad → Solves m s n (write_at g w ty a (now w x) n).steps
         → Stand (write_at g w ty a (now w x) n).walk.path (write_at g w ty a (now w x) n).walk.slots (At (runs.with_cell p.store ad (operand_value t x)))
-    value_written ty (Constant (At o f)) x ad k ok =
-        (h.stands.0, sized_cell m s g w o f (now w x) h.stands.1,
-         subst (λ (z : Address). SlotsRead m s g (with_cell w o f (now w x)).slots (runs.with_cell p.store z (operand_value t x))) (ap place_of k.is) (cell_writes m s g w p.store o f (now w x) (operand_value t x) h.stands.2 (operand x)))
+    value_written ty (Constant (At o f)) x ad k ok = (
+      h.stands.0,
+      sized_cell m s g w o f (now w x) h.stands.1,
+      subst (λ (z : Address). SlotsRead m s g (with_cell w o f (now w x)).slots (runs.with_cell p.store z (operand_value t x))) (ap place_of k.is) (cell_writes m s g w p.store o f (now w x) (operand_value t x) h.stands.2 (operand x)),
+    )
       where
         place_of : CellValue → Address
         place_of (At o f) = record { object = o; offset = f }
@@ -135,14 +138,18 @@ module _ (row : ℕ → ℕ → List CellValue → Bool) (lower : ℕ → List C
     value_written ty (Constant Invalid) x ad k ok = let e = k.is in cc
     value_written ty (Temp i) x ad k ok =
         let z = there ad.object (has_length (g.types.objects ad.object) ad.offset k.type k.there) in
-        let ps = candidates g (g.family.temp i) ty 1 g.objects in
-        (subst (λ (q : Operand). on s q ≡ true) (sym (write_path (w.temps i) ty (now w x) w ps n)) h.stands.0,
-         write_sized m s g (w.temps i) ty (now w x) w ps n h.stands.1,
-         subst (λ (v : CellValue). SlotsRead m s g (write_steps (w.temps i) ty (now w x) ps n w).walk.slots (runs.with_cell p.store ad v)) (operand x)
-           (write_gives m s g (w.temps i) ty ad.object ad.offset (h.temps i ∙ k.is) (now w x) p.store
-             (cell_set g.types.objects g.family p.store ad.object ad.offset k.type (operand_value s (now w x)) k.there stored) w ps n h.stands.0 ok
-             (inl (h.stands.2, is_candidate g (g.family.temp i) ty ad.object ad.offset k.type k.there k.same
-               (held.sets i (member.Object ad.object) (subst (λ (v : CellValue). targets v (member.Object ad.object) ≡ true) (sym k.is) (grind arith))) 1 g.objects z.0 z.1))))
+        let ps = candidates g (g.family.temp i) ty 1 g.objects in (
+          subst (λ (q : Operand). on s q ≡ true) (sym (write_path (w.temps i) ty (now w x) w ps n)) h.stands.0,
+          write_sized m s g (w.temps i) ty (now w x) w ps n h.stands.1,
+          subst (λ (v : CellValue). SlotsRead m s g (write_steps (w.temps i) ty (now w x) ps n w).walk.slots (runs.with_cell p.store ad v)) (operand x)
+              (write_gives m s g (w.temps i) ty ad.object ad.offset (h.temps i ∙ k.is) (now w x) p.store
+              (cell_set g.types.objects g.family p.store ad.object ad.offset k.type (operand_value s (now w x)) k.there stored) w ps n h.stands.0 ok
+              (inl (
+                h.stands.2,
+                is_candidate g (g.family.temp i) ty ad.object ad.offset k.type k.there k.same
+                    (held.sets i (member.Object ad.object) (subst (λ (v : CellValue). targets v (member.Object ad.object) ≡ true) (sym k.is) (grind arith))) 1 g.objects z.0 z.1,
+              ))),
+        )
 
     written_temps : (ty : CellType) (a x : Operand) → (write_at g w ty a x n).walk.temps ≡ w.temps
     written_temps ty (Constant (At o f)) x = refl
@@ -298,9 +305,10 @@ module _ (row : ℕ → ℕ → List CellValue → Bool) (lower : ℕ → List C
     write_off ty (Constant (Number z)) x = h
     write_off ty (Constant Null) x = h
     write_off ty (Constant Invalid) x = h
-    write_off ty (Temp i) x =
-        (subst (λ (q : Operand). on s q ≡ false) (sym (write_path (w.temps i) ty x w (candidates g (g.family.temp i) ty 1 g.objects) n)) h.0,
-         write_sized m s g (w.temps i) ty x w (candidates g (g.family.temp i) ty 1 g.objects) n h.1)
+    write_off ty (Temp i) x = (
+      subst (λ (q : Operand). on s q ≡ false) (sym (write_path (w.temps i) ty x w (candidates g (g.family.temp i) ty 1 g.objects) n)) h.0,
+      write_sized m s g (w.temps i) ty x w (candidates g (g.family.temp i) ty 1 g.objects) n h.1,
+    )
 
     check_off : (rk : Bool) (k : ℕ) (a : Operand) → Solves m s n (on_check rk k c a n w).steps → Stop (on_check rk k c a n w)
     check_off true k a ok = stops_on _ nothing (with_path w (Temp n)) (both_off n a ok.0, h.1)

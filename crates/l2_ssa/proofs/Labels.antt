@@ -1,21 +1,20 @@
 -- What a solution shows behind a label.
-use Rattle.std.proofs.Common.{arith, ◌≡◌, ◌⊎◌, inl, inr, ℕ, zero, suc, ◌+◌, Bool, true, false, not, refl, sym, ap, ◌∙◌, subst, List, [], ◌∷◌, ◌++◌, Option, Some, None}
-use Rattle.std.specs.Prelude.{◌&&◌, ◌||◌}
+use Rattle.std.proofs.Common.{arith, ◌≡◌, inl, inr, ℕ, zero, suc, Bool, true, false, refl, ap, ◌∙◌, List, [], ◌∷◌}
+use Rattle.std.specs.Prelude.{◌||◌}
 use Rattle.l2_bits.specs.Types.{bool_type}
 use Rattle.l2_runs.specs.declared.cells.CellType.{CellType}
 use Rattle.l2_runs.specs.declared.cells.CellType.TheVariants.{Integer}
 use Rattle.l2_runs.specs.declared.cells.CellValue.{CellValue}
-use Rattle.l2_runs.specs.Operators.{truth}
-use Rattle.l2_runs.specs.Store.{Store, Object}
+use Rattle.l2_runs.specs.Store.{Store}
 use Rattle.l2_code.specs.declared.action.Operand.{Operand}
 use Rattle.l2_code.specs.declared.action.Operand.TheVariants.{Temp}
 use Rattle.l2_code.specs.Values.{Temps, operand_value, is_true}
 use Rattle.l2_code.specs.Machine.{Way, On, Out, leave}
-use Rattle.l2_supply.specs.Supply.{Place, Come, Goes, Ends}
-use Rattle.l2_ssa.specs.Steps.{Step, Merge, Either, Names, on, bit, Meaning, Holds, Solves}
+use Rattle.l2_supply.specs.Supply.{Come, Goes, Ends}
+use Rattle.l2_ssa.specs.Steps.{Step, Merge, Names, on, bit, Meaning, Holds, Solves}
 use Rattle.l2_ssa.specs.Walks as walks
 use Rattle.l2_ssa.specs.Walks.{Setting, Slot, Walk, Entry, past, merge_cells, merged_cells, merge_slots, merge_flags, merged_slots, merge_if, merge_all, outer_if, outer, at_label}
-use Rattle.l2_ssa.proofs.Shows.{Spot, Off, At, Start, Nowhere, Standing, SameLength, CellsRead, SlotsRead, Sized, Stands, TempsShow, Begins, AllShut, OneOpen, EntriesShow, AllFalse, EventsShow, Shows, Stops, solves_first, solves_second}
+use Rattle.l2_ssa.proofs.Shows.{Spot, Off, At, SameLength, CellsRead, SlotsRead, Sized, Stands, AllShut, OneOpen, Shows, Stops, solves_first, solves_second}
 
 pub bit_on : (b : Bool) → is_true (bit b) ≡ b
 bit_on true = refl
@@ -42,6 +41,7 @@ module _ (m : Meaning) (s : Names) (g : Setting) where
       firsts : ChosenCells p h ts xs ys (merged_cells (suc n) ts xs ys) → Holds m s n (Merge p h t x y) → (vs : List CellValue) → on s h ≡ true → CellsRead m s g (x ∷ xs) vs → CellsRead m s g (Temp n ∷ merged_cells (suc n) ts xs ys) vs
       firsts c i [] e k = k
       firsts c i (v ∷ vs) e k = (i.0 e ∙ k.0, c.first vs e k.1)
+
       seconds : ChosenCells p h ts xs ys (merged_cells (suc n) ts xs ys) → Holds m s n (Merge p h t x y) → (vs : List CellValue) → on s p ≡ true → on s h ≡ false → CellsRead m s g (y ∷ ys) vs → CellsRead m s g (Temp n ∷ merged_cells (suc n) ts xs ys) vs
       seconds c i [] e d k = k
       seconds c i (v ∷ vs) e d k = (i.1 e d ∙ k.0, c.second vs e d k.1)
@@ -61,16 +61,18 @@ module _ (m : Meaning) (s : Names) (g : Setting) where
   slots_chosen p h o (suc k) (x ∷ xs) (y ∷ ys) n i a b ok fl =
       let c = cells_chosen p h (g.types.objects o) x.cells y.cells n a.0 b.0 (solves_first m s g n (merge_cells p h (g.types.objects o) x.cells y.cells) _ ok) in
       let d = slots_chosen p h (suc o) k xs ys (past n (merge_cells p h (g.types.objects o) x.cells y.cells)) (suc i) a.1 b.1
-          (solves_second m s g n (merge_cells p h (g.types.objects o) x.cells y.cells) _ ok) fl.1 in
+      (solves_second m s g n (merge_cells p h (g.types.objects o) x.cells y.cells) _ ok) fl.1 in
       record { size = (c.size, d.size); first = firsts c d fl.0; second = seconds c d fl.0 }
     where
       cells : List Operand
       cells = merged_cells n (g.types.objects o) x.cells y.cells
+
       firsts : ChosenCells p h (g.types.objects o) x.cells y.cells (merged_cells n (g.types.objects o) x.cells y.cells)
           → ChosenSlots p h (suc o) k xs ys (merged_slots g p h (past n (merge_cells p h (g.types.objects o) x.cells y.cells)) (suc i) (suc o) xs ys)
           → Holds m s i (Merge p h (Integer bool_type) x.live y.live) → (st : Store) → on s h ≡ true → SlotsRead m s g (x ∷ xs) st → SlotsRead m s g (merged_slots g p h n i o (x ∷ xs) (y ∷ ys)) st
       firsts c d j [] e q = q
       firsts c d j (v ∷ vs) e q = ((c.first v.cells e q.0.0, ap is_true (j.0 e) ∙ q.0.1), d.first vs e q.1)
+
       seconds : ChosenCells p h (g.types.objects o) x.cells y.cells (merged_cells n (g.types.objects o) x.cells y.cells)
           → ChosenSlots p h (suc o) k xs ys (merged_slots g p h (past n (merge_cells p h (g.types.objects o) x.cells y.cells)) (suc i) (suc o) xs ys)
           → Holds m s i (Merge p h (Integer bool_type) x.live y.live) → (st : Store) → on s p ≡ true → on s h ≡ false → SlotsRead m s g (y ∷ ys) st → SlotsRead m s g (merged_slots g p h n i o (x ∷ xs) (y ∷ ys)) st

@@ -9,3 +9,7 @@ pub mod Heads
 pub mod Turns
 pub mod Copies
 pub mod Whole
+pub mod Givens
+pub mod Enters
+pub mod Solutions
+pub mod Orders

@@ -1,5 +1,5 @@
 -- Reads and writes through pointers.
-use Rattle.std.proofs.Common.{arith, ◌≡◌, ◌⊎◌, inl, inr, ℕ, zero, suc, ◌+◌, ◌<◌, ◌≤◌, Bool, true, false, refl, sym, ap, ◌∙◌, subst, List, [], ◌∷◌, ◌++◌, length, Option, Some, None, IfSome, cond}
+use Rattle.std.proofs.Common.{arith, ◌≡◌, ◌⊎◌, inl, inr, ℕ, zero, suc, ◌+◌, ◌<◌, ◌≤◌, Bool, true, false, refl, sym, ap, ◌∙◌, subst, List, [], ◌∷◌, ◌++◌, Option, Some, None, IfSome, cond}
 use Rattle.std.specs.Prelude.{◌&&◌, ◌==◌, pos, slice_get, slice_set, slice_index_or}
 use Rattle.std.proofs.lemmas.Bool.{eqb-true, and_parts}
 use Rattle.l2_runs.specs.declared.cells.CellType.{CellType}
@@ -11,11 +11,11 @@ use Rattle.l2_runs.specs.Fits.{Layout}
 use Rattle.l2_runs.specs.Store as runs
 use Rattle.l2_runs.specs.Store.{Store, Object, Address, or_nothing, object_at}
 use Rattle.l2_code.specs.declared.action.Operand.{Operand}
-use Rattle.l2_code.specs.declared.action.Operand.TheVariants.{Constant, Temp}
+use Rattle.l2_code.specs.declared.action.Operand.TheVariants.{Temp}
 use Rattle.l2_code.specs.Values.{operand_value, same_type, is_type, cell_of}
 use Rattle.l2_code_laws.specs.Holding.{CellsHold, StoreHolds}
 use Rattle.l2_code.specs.Sets.{Family}
-use Rattle.l2_ssa.specs.Steps.{Step, Pick, Names, on, Meaning, Holds, Solves, is_at}
+use Rattle.l2_ssa.specs.Steps.{Pick, Names, on, Meaning, Holds, Solves, is_at}
 use Rattle.l2_ssa.specs.Walks as walks
 use Rattle.l2_ssa.specs.Walks.{Setting, Slot, Walk, Place, places_in, candidates, read_steps, write_steps, with_cell}
 use Rattle.l2_ssa.proofs.Shows.{SlotsRead, Sized}
@@ -46,6 +46,7 @@ place_in ty o f (t ∷ ts) zero u e h = here (same_type ty t) (subst (λ (x : Ce
   where
     first : Some t ≡ Some u → u ≡ t
     first e = cc
+
     here : (b : Bool) → b ≡ true → HasPlace o (f + 0) (cond b (record { object = o; offset = f } ∷ places_in ty o (suc f) ts) (places_in ty o (suc f) ts))
     here true e = inl (refl, omega arith)
     here false e = cc
@@ -64,6 +65,7 @@ module _ (g : Setting) (set : Member → Bool) (ty : CellType) (o f : ℕ) (u : 
     where
       above : (o == o0) ≡ false → suc o0 ≤ o
       above p = grind arith
+
       go : (x : Bool) → (o == o0) ≡ x → (suc o0 ≤ o → o < suc o0 + k → HasPlace o f (candidates g set ty (suc o0) k)) → HasPlace o f (candidates g set ty o0 (suc k))
       go true q next = subst (λ z. HasPlace o f (candidates g set ty z (suc k))) (eqb-true o o0 q) (own_places (set (member.Object o)) (candidates g set ty (suc o) k) held)
       go false q next = place_second o f (cond (set (member.Object o0)) (places_in ty o0 0 (g.types.objects o0)) []) (candidates g set ty (suc o0) k) (next (above q) (omega arith))
@@ -81,6 +83,7 @@ found cells ty (At o f) = go (slice_get (cells o) f) refl
     pick : (u : CellType) → slice_get (cells o) f ≡ Some u → (t : Bool) → same_type ty u ≡ t → IfSome (cond t (Some (record { object = o; offset = f })) None) (Found cells ty (At o f))
     pick u e true s = record { type = u; there = e; same = s; is = refl }
     pick u e false s = tt
+
     go : (x : Option CellType) → slice_get (cells o) f ≡ x → IfSome (cond (is_type ty x) (Some (record { object = o; offset = f })) None) (Found cells ty (At o f))
     go None e = tt
     go (Some u) e = pick u e (same_type ty u) refl
@@ -155,7 +158,7 @@ module _ (m : Meaning) (s : Names) (g : Setting) (a : Operand) (ty : CellType) (
         go : (SlotsRead m s g w.slots st × HasPlace o f (q ∷ ps)) ⊎ SlotsRead m s g w.slots after
             → ((q.object ≡ o) × (q.offset ≡ f) × (s n ≡ operand_value s x)) ⊎ ((((q.object ≡ o) × (q.offset ≡ f)) → ⊥) × (s n ≡ operand_value s (walks.cell_at w.slots q.object q.offset)))
             → ((SlotsRead m s g (with_cell w q.object q.offset (Temp n)).slots st × HasPlace o f ps) ⊎ SlotsRead m s g (with_cell w q.object q.offset (Temp n)).slots after
-                → SlotsRead m s g (write_steps a ty x ps (suc n) (with_cell w q.object q.offset (Temp n))).walk.slots after)
+            → SlotsRead m s g (write_steps a ty x ps (suc n) (with_cell w q.object q.offset (Temp n))).walk.slots after)
             → SlotsRead m s g (write_steps a ty x (q ∷ ps) n w).walk.slots after
         go (inl (r, k)) (inl (eo, ef, y)) next =
             next (inr (subst (λ z. SlotsRead m s g (with_cell w q.object q.offset (Temp n)).slots z) (λ i. runs.with_cell st (record { object = eo i; offset = ef i }) (operand_value s x)) (cell_writes m s g w st q.object q.offset (Temp n) (operand_value s x) r y)))

@@ -1,16 +1,15 @@
 -- What a solution shows of a walk: at most one path is true, and its objects are the run's.
-use Rattle.std.proofs.Common.{arith, ◌≡◌, ◌⊎◌, inl, inr, ℕ, zero, suc, ◌+◌, Bool, true, false, not, refl, sym, ap, ◌∙◌, subst, List, [], ◌∷◌, ◌++◌, Option, Some, None}
-use Rattle.std.specs.Prelude.{◌&&◌, ◌||◌, if◌then◌else◌}
+use Rattle.std.proofs.Common.{◌≡◌, ◌⊎◌, inl, inr, ℕ, zero, suc, Bool, true, false, not, List, [], ◌∷◌, ◌++◌}
 use Rattle.l2_runs.specs.declared.outcome.Outcome.TheVariants.{Ended, Stopped, Broken, OutOfChoices, OutOfTurns}
-use Rattle.l2_runs.specs.declared.cells.CellType.{CellType}
 use Rattle.l2_runs.specs.declared.cells.CellValue.{CellValue}
 use Rattle.l2_runs.specs.Store.{Store, Object}
 use Rattle.l2_runs.specs.Runs.{End, Over, Fallen}
 use Rattle.l2_code.specs.declared.action.Operand.{Operand}
 use Rattle.l2_code.specs.Values.{Temps, operand_value}
 use Rattle.l2_code.specs.Machine.{Way, On, Out}
-use Rattle.l2_supply.specs.Supply.{Supply, left, right, number_of, Place, Come, Goes, Ends}
-use Rattle.l2_ssa.specs.Steps.{Step, Names, on, Meaning, Holds, Solves}
+use Rattle.l2_supply.specs.Supply.{Place, Come, Goes, Ends}
+use Rattle.l2_ssa.specs.Steps.{Step, Names, on, Meaning, Solves}
+use Rattle.l2_ssa.specs.Law.{end_of}
 use Rattle.l2_ssa.specs.Walks as walks
 use Rattle.l2_ssa.specs.Walks.{Setting, Goal, RowGoal, RankGoal, CheckGoal, Kind, Bottom, Plain, Rows, Slot, Walk, Entry, Event, Given, past, goes_on, joined}
 
@@ -33,17 +32,6 @@ abbrev pub fallen : Come Way → Start
 fallen (Goes (On t) p) = Standing t p
 fallen (Goes (Out n) p) = Nowhere
 fallen (Ends e p) = Nowhere
-
--- the end at which an event of a goal stands
-abbrev pub rank_row : Kind → ℕ
-rank_row Bottom = 0
-rank_row Plain = 0
-rank_row (Rows n) = suc n
-
-abbrev pub end_of : Setting → Goal → End
-end_of g (RowGoal l i) = Fallen l i
-end_of g (RankGoal l) = Fallen l (rank_row (g.kind l))
-end_of g (CheckGoal c) = Over (Broken c)
 
 -- whether an end is an event: where rankings are asked for, checks are stops
 abbrev pub is_shown : Setting → End → Bool

@@ -1,10 +1,10 @@
 -- Objects of a walk and of a run, where cells are read and written.
-use Rattle.std.proofs.Common.{arith, ◌≡◌, ℕ, zero, suc, ◌+◌, Bool, true, false, refl, sym, ap, ◌∙◌, subst, List, [], ◌∷◌, Option, Some, None, pos}
+use Rattle.std.proofs.Common.{◌≡◌, ℕ, zero, suc, Bool, refl, List, [], ◌∷◌, pos}
 use Rattle.std.specs.Prelude.{slice_get, slice_set, slice_index_or}
 use Rattle.l2_runs.specs.declared.cells.CellType.{CellType}
 use Rattle.l2_runs.specs.declared.cells.CellValue.{CellValue}
 use Rattle.l2_runs.specs.declared.cells.CellValue.TheVariants.{Number}
-use Rattle.l2_runs.specs.Numbers.{at_number, set_number}
+use Rattle.l2_runs.specs.Numbers.{set_number}
 use Rattle.l2_runs.specs.Store as runs
 use Rattle.l2_runs.specs.Store.{Store, Object, or_nothing, object_at}
 use Rattle.l2_code.specs.declared.action.Operand.{Operand}

@@ -1,10 +1,8 @@
 -- What a solution shows at the end of a turn.
-use Rattle.std.proofs.Common.{arith, ◌≡◌, ◌⊎◌, inl, inr, ℕ, zero, suc, ◌+◌, Bool, true, false, not, refl, sym, ap, ◌∙◌, subst, List, [], ◌∷◌, ◌++◌, Option, Some, None}
+use Rattle.std.proofs.Common.{◌≡◌, inl, ℕ, zero, suc, Bool, true, false, not, refl, sym, ap, ◌∙◌, subst, List, [], ◌∷◌, ◌++◌}
 use Rattle.std.specs.Prelude.{◌&&◌}
-use Rattle.l2_runs.specs.declared.cells.CellValue.{CellValue}
-use Rattle.l2_runs.specs.declared.outcome.Outcome.TheVariants.{Stopped}
 use Rattle.l2_runs.specs.Store.{Store}
-use Rattle.l2_runs.specs.Runs.{End, Over, Fallen, on_go, demand}
+use Rattle.l2_runs.specs.Runs.{Fallen, on_go, demand}
 use Rattle.l2_runs.specs.Loops.{Test, events, bottom}
 use Rattle.l2_code.specs.declared.action.Operand.{Operand}
 use Rattle.l2_code.specs.declared.action.Operand.TheVariants.{Temp}
@@ -13,7 +11,7 @@ use Rattle.l2_supply.specs.Supply.{Place, at, Come, Goes, Ends, come_of}
 use Rattle.l2_ssa.specs.Steps.{Names, on, bit, Meaning, Solves, values_of}
 use Rattle.l2_ssa.specs.Walks as walks
 use Rattle.l2_ssa.specs.Walks.{Setting, Slot, Walk, Kind, Bottom, Plain, Rows, RowGoal, past, with_path, end_rows, end_rank, end_turn, vars_now, joined}
-use Rattle.l2_ssa.specs.Law.{RowsOf, RanksOf, first_cells, row_holds, row_tests, rank_test, tests_of}
+use Rattle.l2_ssa.specs.Law.{row_holds, row_tests, rank_test, tests_of}
 use Rattle.l2_ssa.proofs.Shows.{Spot, Off, At, Stands, AllShut, AllFalse, OneIf, Stops, is_shown, false_both, false_if, if_false, solves_first, solves_second}
 use Rattle.l2_ssa.proofs.Labels.{bit_on}
 use Rattle.l2_ssa.proofs.Heads.{vars_read}
@@ -43,7 +41,7 @@ module _ (m : Meaning) (s : Names) (g : Setting) (types : m.types ≡ g.types) w
   rows_off q c l i zero n w h ok = record { after = h; entries = tt; events = tt }
   rows_off q c l i (suc more) n w h ok =
       let r = rows_off q c l (suc i) more (suc (suc (suc (suc n)))) (with_path w (Temp (suc (suc (suc n))))) (on_both (suc (suc (suc n))) w.path (Temp (suc n)) ok.1.1.1.0 ∙ ap (λ x. x && on s (Temp (suc n))) h.0, h.1)
-          ok.1.1.1.1 in
+      ok.1.1.1.1 in
       record {
         after = r.after;
         entries = r.entries;
@@ -56,9 +54,10 @@ module _ (m : Meaning) (s : Names) (g : Setting) (types : m.types ≡ g.types) w
       → s n ≡ bit (on s w.path && on s c) → (on s q ≡ true → s (suc n) ≡ bit (m.row l i (values_of s (vars_now w.slots (g.vars l))))) → s (suc (suc n)) ≡ bit (on s (Temp n) && not (on s (Temp (suc n))))
       → s (suc (suc (suc n))) ≡ bit (on s w.path && on s (Temp (suc n))) → (on s (Temp (suc (suc n))) ≡ (b && not t)) × (on s (Temp (suc (suc (suc n)))) ≡ t)
   row_event q c l i n w st b t guard h e d x y z v =
-      let r : on s (Temp (suc n)) ≡ t = ap is_true (y guard) ∙ bit_on (m.row l i (values_of s (vars_now w.slots (g.vars l)))) ∙ ap (m.row l i) (vars_read m s g types w.slots st (g.vars l) h.2) ∙ d in
-      (on_but (suc (suc n)) (Temp n) (Temp (suc n)) z ∙ (λ j. (on_both n w.path c x ∙ (λ k. h.0 k && e k)) j && not (r j)),
-       on_both (suc (suc (suc n))) w.path (Temp (suc n)) v ∙ (λ j. h.0 j && r j))
+      let r : on s (Temp (suc n)) ≡ t = ap is_true (y guard) ∙ bit_on (m.row l i (values_of s (vars_now w.slots (g.vars l)))) ∙ ap (m.row l i) (vars_read m s g types w.slots st (g.vars l) h.2) ∙ d in (
+        on_but (suc (suc n)) (Temp n) (Temp (suc n)) z ∙ (λ j. (on_both n w.path c x ∙ (λ k. h.0 k && e k)) j && not (r j)),
+        on_both (suc (suc (suc n))) w.path (Temp (suc n)) v ∙ (λ j. h.0 j && r j),
+      )
 
   and_false : (x : Bool) → (x && false) ≡ false
   and_false true = refl
@@ -74,9 +73,11 @@ module _ (m : Meaning) (s : Names) (g : Setting) (types : m.types ≡ g.types) w
       where
         facts : (t : Bool) → row_holds m.row g l i p.store ≡ t → (on s (Temp (suc (suc n))) ≡ (b && not t)) × (on s (Temp (suc (suc (suc n)))) ≡ t)
         facts t d = row_event q c l i n w p.store b t guard h counted d ok.0 ok.1.0 ok.1.1.0 ok.1.1.1.0
+
         with_false : (e : Come (Unit {0})) → on s (Temp (suc (suc n))) ≡ false → Closes (end_rows g q c l (suc i) more (suc (suc (suc (suc n)))) (with_path w (Temp (suc (suc (suc n)))))) p e → Closes (end_rows g q c l i (suc more) n w) p e
         with_false (Goes u p') z k = record { closed = (k.closed.0, k.closed.1, (z, k.closed.2)); entries = k.entries }
         with_false (Ends e p') z k = record { closed = (k.closed.0, false_if m s g (is_shown g e) e (walks.event (RowGoal l i) (Temp (suc (suc n)))) _ (z, tt) k.closed.1); entries = k.entries }
+
         go : (t : Bool) → row_holds m.row g l i p.store ≡ t → (b' : Bool) → b ≡ b'
             → (Stand (Temp (suc (suc (suc n)))) w.slots (At p.store) → Closes (end_rows g q c l (suc i) more (suc (suc (suc (suc n)))) (with_path w (Temp (suc (suc (suc n)))))) p (come_of (events b l (row_tests m.row g l (suc i) more) old (at p [] 0))))
             → (Stand (Temp (suc (suc (suc n)))) w.slots Off → Stops m s g (end_rows g q c l (suc i) more (suc (suc (suc (suc n)))) (with_path w (Temp (suc (suc (suc n)))))))
@@ -122,7 +123,7 @@ module _ (m : Meaning) (s : Names) (g : Setting) (types : m.types ≡ g.types) w
     turn_close (Rows r) c b e l slots old n w p h ok =
         subst (λ ts. Closes (end_turn g (Rows r) c l slots n w) p (come_of (events b l ts old (at p [] 0)))) (sym (rank_tests g.ranks plain l (suc r) (row_tests m.row g l 1 r)))
         (rank_close g.ranks plain w.path c l slots _ (end_rows g w.path c l 1 r n w) p _
-            (rows_close w.path c h.0 b e old l 1 r n w p h (solves_first m s g n (end_rows g w.path c l 1 r n w).steps _ ok)))
+        (rows_close w.path c h.0 b e old l 1 r n w p h (solves_first m s g n (end_rows g w.path c l 1 r n w).steps _ ok)))
 
     pub turn_off : (kind : Kind) (c : Operand) (l : ℕ) (slots : List Slot) (n : ℕ) (w : Walk) → Stand w.path w.slots Off → Solves m s n (end_turn g kind c l slots n w).steps → Stops m s g (end_turn g kind c l slots n w)
     turn_off Bottom c l slots n w h ok = record { after = (refl, h.1); entries = tt; events = (on_both n w.path c ok.0 ∙ ap (λ x. x && on s c) h.0, tt) }

@@ -1,10 +1,9 @@
 -- The walk over code that gives its equations. No step depends on what a circuit simplifies to.
-use Rattle.std.specs.Prelude.{ℕ, zero, suc, ◌+◌, ℤ, pos, Bool, true, false, List, [], ◌∷◌, ◌++◌, length, slice_index_or, slice_set, slice_get, Option, Some, None, if◌then◌else◌, ◌==◌}
+use Rattle.std.specs.Prelude.{ℕ, zero, suc, pos, Bool, true, false, List, [], ◌∷◌, ◌++◌, slice_index_or, slice_set, Option, Some, None, if◌then◌else◌, ◌==◌}
 use Rattle.l2_bits.specs.declared.types.Ty.{Ty}
 use Rattle.l2_bits.specs.Types.{bool_type}
 use Rattle.l2_runs.specs.declared.cells.CellType.{CellType}
 use Rattle.l2_runs.specs.declared.cells.CellType.TheVariants.{Integer, Pointer}
-use Rattle.l2_runs.specs.declared.cells.CellValue.{CellValue}
 use Rattle.l2_runs.specs.declared.cells.CellValue.TheVariants.{Number, Null, At}
 use Rattle.l2_runs.specs.declared.member.Member.{Member}
 use Rattle.l2_runs.specs.declared.member.Member.TheVariants as member
@@ -392,9 +391,9 @@ scatter_one g p b o f (Integer ty) n w =
     record (stepped (Take p ty ∷ Merge p b (Integer ty) (Temp n) (cell_at w.slots o f) ∷ []) (with_cell w o f (Temp (suc n)))) { given = taken n ty }
 scatter_one g p b o f Pointer n w =
     record (stepped
-        (Half p ∷ Half p ∷ Point p (Temp n) (Temp (suc n)) ∷ Merge p b Pointer (Temp (suc (suc n))) (cell_at w.slots o f)
-            ∷ Among p (Temp n) (Temp (suc n)) (g.family.object o) ∷ But b (Temp (suc (suc (suc (suc n))))) ∷ But w.path (Temp (suc (suc (suc (suc (suc n)))))) ∷ [])
-        (with_path (with_cell w o f (Temp (suc (suc (suc n))))) (Temp (suc (suc (suc (suc (suc (suc n))))))))) { given = pair (half n) (pair (half (suc n)) nothing) }
+    (Half p ∷ Half p ∷ Point p (Temp n) (Temp (suc n)) ∷ Merge p b Pointer (Temp (suc (suc n))) (cell_at w.slots o f)
+    ∷ Among p (Temp n) (Temp (suc n)) (g.family.object o) ∷ But b (Temp (suc (suc (suc (suc n))))) ∷ But w.path (Temp (suc (suc (suc (suc (suc n)))))) ∷ [])
+    (with_path (with_cell w o f (Temp (suc (suc (suc n))))) (Temp (suc (suc (suc (suc (suc (suc n))))))))) { given = pair (half n) (pair (half (suc n)) nothing) }
 
 abbrev pub scatter_cells : Setting → Operand → Operand → ℕ → ℕ → List CellType → ℕ → Walk → Out
 scatter_cells g p b o f [] n w = goes_on w
