@@ -23,7 +23,7 @@ use Rattle.l2_code.specs.declared.action.Action.TheVariants as action
 use Rattle.l2_code.specs.Trees.{Do, Nodes, none, more, join}
 use Rattle.l2_code.specs.Values.{same_type}
 use Rattle.l2_code.specs.Sets.{Family, may_be, AreClosed}
-use Rattle.l2_lower.specs.Emitting.{only, cell, nothing, computed, unary_code, conversion, truth_code, checked, expression, condition}
+use Rattle.l2_lower.specs.Emitting.{only, cell, nothing, computed, unary_code, binary_code, conversion, truth_code, checked, expression, condition}
 use Rattle.l2_lower.specs.Statements.{initialised, deads, statement, statements}
 use Rattle.l2_lower.proofs.Converted.{same_type_self}
 
@@ -72,11 +72,11 @@ module _ (f : Family) where
     expression_taken (tree.Read ty (tree.Object o)) h n (c, z) = (tt, λ m e. c o (at_cell o) m e)
     expression_taken (tree.Unary op ty k e) (h, is) n c = ((expression_taken e h n (closed_join (expression n e).nodes (unary_code (expression n e).next op ty k (expression n e).operand).nodes c).0).0, λ m q. cc)
     expression_taken (tree.Binary op ty k x y) (h, is, h', is') n c =
-        let p = closed_join (expression n x).nodes _ c in
-        let q = closed_join (expression (expression n x).next y).nodes _ p.1 in
+        let p = closed_join (expression n x).nodes (join (expression (expression n x).next y).nodes (binary_code (expression (expression n x).next y).next op ty k (expression n x).operand (expression (expression n x).next y).operand).nodes) c in
+        let q = closed_join (expression (expression n x).next y).nodes (binary_code (expression (expression n x).next y).next op ty k (expression n x).operand (expression (expression n x).next y).operand).nodes p.1 in
         (((expression_taken x h n p.0).0, (expression_taken y h' (expression n x).next q.0).0), λ m z. cc)
     expression_taken (tree.Convert ty e) (h, is) n c =
-        let r = expression_taken e h n (closed_join (expression n e).nodes _ c).0 in
+        let r = expression_taken e h n (closed_join (expression n e).nodes (conversion (expression n e).next (type_of e) ty (expression n e).operand).nodes c).0 in
         (r.0, converted_taken (expression n e).next (type_of e) ty (expression n e).operand (pointing.may_be f.object e) is r.1)
     expression_taken (tree.Assign ty (tree.Object o) e) (is, h, is') n c =
         let p = closed_join (expression n e).nodes (only (action.Write ty (cell o 0) (expression n e).operand)) c in
