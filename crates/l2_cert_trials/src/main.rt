@@ -1,9 +1,15 @@
-//! Reads a certificate from each line of its input, with `/` in place of LF, and prints what `read` and `write` make of it.
+//! Reads a certificate from each line of its input, with `/` in place of LF, and prints what `read` and `write` make of it,
+//! and what is said of its steps where each goal's formula is the clause `1` and the empty clause.
 #![tactic(auto)]
 
+mod steps;
+
+use crate::steps::answers;
 use l2_cert::{CertError, read, write};
 use std::alloc::{AllocError, Global};
 use std::io;
+use std::marker::Sync;
+use std::thread::Threads;
 
 /// The bytes of a line, with LF in place of `/`.
 fn bytes_of(alloc: Global, line: &str) -> Result<Vec<u8>, AllocError> {
@@ -15,7 +21,7 @@ fn bytes_of(alloc: Global, line: &str) -> Result<Vec<u8>, AllocError> {
 }
 
 /// What comes of a certificate that is read and written again.
-fn answer(alloc: Global, bytes: &[u8]) -> Result<String, AllocError> {
+fn answer<R: Threads + Sync>(rt: &R, alloc: Global, bytes: &[u8]) -> Result<String, AllocError> {
     match read(alloc, bytes) {
         Ok(cert) => {
             let k = cert.k;
@@ -24,7 +30,10 @@ fn answer(alloc: Global, bytes: &[u8]) -> Result<String, AllocError> {
             let goals = cert.goals.as_slice().len();
             let again = write(alloc, &cert)?;
             let same = again.as_slice() == bytes;
-            format!(in alloc; "k {k} loops {loops} ranks {ranks} goals {goals} written again: {same}")
+            let steps = answers(rt, alloc, cert.goals.as_slice())?;
+            format!(in alloc;
+                "k {k} loops {loops} ranks {ranks} goals {goals} written again: {same}; steps: {steps}"
+            )
         }
         Err(CertError::BadLine { line }) => format!(in alloc; "bad line {line}"),
         Err(CertError::NoMemory) => String::from_str(alloc, "no memory"),
@@ -35,7 +44,7 @@ fn main(rt: HostRuntime) -> io::Result<()> {
     for line in rt.lines(rt.alloc()) {
         let line = line?;
         let bytes = bytes_of(rt.alloc(), line.as_str())?;
-        let said = answer(rt.alloc(), bytes.as_slice())?;
+        let said = answer(&rt, rt.alloc(), bytes.as_slice())?;
         println!(rt; "{said}")?;
     }
     Ok(())

@@ -1,5 +1,5 @@
 -- A supply may as well enter each loop at Bottom: where it starts one back, the run is stopped.
-use Rattle.std.proofs.Common.{arith, ◌≡◌, ◌⊎◌, inl, inr, ℕ, zero, suc, pos, Bool, true, false, not, refl, sym, ap, ◌∙◌, subst, List, [], ◌∷◌, Option, Some, None}
+use Rattle.std.proofs.Common.{◌≡◌, ◌⊎◌, inl, inr, ℕ, zero, suc, pos, Bool, true, false, refl, sym, ap, subst, List, [], ◌∷◌, Option, Some, None}
 use Rattle.std.specs.Ordering.{int_eq}
 use Rattle.l2_runs.specs.declared.cells.CellType.{CellType}
 use Rattle.l2_runs.specs.declared.cells.CellType.TheVariants.{Integer, Pointer}
@@ -9,8 +9,7 @@ use Rattle.l2_runs.specs.declared.outcome.Outcome.TheVariants.{Ended, Stopped, B
 use Rattle.l2_runs.specs.Fits.{Layout}
 use Rattle.l2_runs.specs.Members.{is_in}
 use Rattle.l2_runs.specs.Store.{Store}
-use Rattle.l2_runs.specs.Runs.{End, Over, Fallen, done, stop, either, write}
-use Rattle.l2_runs.specs.Loops.{Tests, or_events}
+use Rattle.l2_runs.specs.Runs.{Over, Fallen, done, stop, either, write}
 use Rattle.l2_runs.specs.Back.{pointer_of, on_member}
 use Rattle.l2_code.specs.declared.action.Operand.{Operand}
 use Rattle.l2_code.specs.declared.action.Operand.TheVariants.{Temp}
@@ -18,8 +17,8 @@ use Rattle.l2_code.specs.declared.action.Action.{Action}
 use Rattle.l2_code.specs.declared.action.Action.TheVariants as action
 use Rattle.l2_code.specs.Trees.{Node, Do, Block, Loop, Nodes, none, more}
 use Rattle.l2_code.specs.Values.{Temps}
-use Rattle.l2_code.specs.Machine.{Way, On, Out, leave, close}
-use Rattle.l2_supply.specs.Supply.{Supply, nil, one, two, left, right, number_of, Place, at, Come, Goes, Ends, Supplied, on_goes, then_with, without, come_of}
+use Rattle.l2_code.specs.Machine.{Way, On, Out, close}
+use Rattle.l2_supply.specs.Supply.{Supply, one, two, left, right, number_of, Place, at, Come, Goes, Ends, Supplied, on_goes, then_with, without, come_of}
 use Rattle.l2_supply.specs.Going as going
 use Rattle.l2_supply.specs.Going.{Cut, any_with, cells_with, scatter_with, passing, back_with, tested_with, rounds_with, later_with, seen, loop_with, act_with, follow_with, node_with, nodes_with}
 use Rattle.l2_ssa.specs.Walks as walks
@@ -198,7 +197,7 @@ module _ (g : Setting) where
           go true = rounds_enter Bottom walks.F c w.temps B n w (right (right u)) p
           go false = inr (halted_then (back_with g.types.objects g.family.object (g.mods l) (starts row g l) (left (right u)) p) _
               (mild_halts (scatter_with g.types.objects g.family.object (g.mods l) (left (left (right u))) p) _ (scatter_mild g.types.objects g.family.object (g.mods l) (left (left (right u))) p)
-                  (λ a z. pass_halts (starts row g l) z (ap (λ kd. starts_of row g kd l z.store) e))))
+              (λ a z. pass_halts (starts row g l) z (ap (λ kd. starts_of row g kd l z.store) e))))
 
       rows_enter : (r : ℕ) (c : Operand) (n : ℕ) (w : Walk) (B : Bool) (u : Supply) (p : Place)
           → Same (loop_with run (Cut (suc k0) (starts row g)) l q B u p) (loop_with run (Cut (suc k0) (starts row g)) l q B (enter (walk_loop g (Rows r) body l c n w).given u) p)
@@ -227,7 +226,7 @@ module _ (g : Setting) where
           → ((f : Frame) (d : Operand) (n : ℕ) (w : Walk) (D : Bool) (v : Supply) (p : Place) → Same (turn D v p) (turn D (enter (body f d n w).given v) p))
           → (kd : Kind) → g.kind l ≡ kd → (c : Operand) (n : ℕ) (w : Walk) (B : Bool) (u : Supply) (p : Place)
           → Same (loop_with run (Cut (suc k0) (starts row g)) l (λ d. tested_with (tests row lower g) l d (seen (λ w. (tt {0}, close w)) (turn d))) B u p)
-            (loop_with run (Cut (suc k0) (starts row g)) l (λ d. tested_with (tests row lower g) l d (seen (λ w. (tt {0}, close w)) (turn d))) B (enter (walk_loop g kd body l c n w).given u) p)
+          (loop_with run (Cut (suc k0) (starts row g)) l (λ d. tested_with (tests row lower g) l d (seen (λ w. (tt {0}, close w)) (turn d))) B (enter (walk_loop g kd body l c n w).given u) p)
       loop_enter l body turn h Bottom e c n w B u p = bottom_enter l body turn h e c n w B u p
       loop_enter l body turn h Plain e c n w B u p = absurd (no_plain l e)
       loop_enter l body turn h (Rows r) e c n w B u p = rows_enter l body turn h r c n w B u p

@@ -1,18 +1,15 @@
 -- Jumps out of loops, and the names that choices give.
 use Rattle.std.proofs.Common.{◌≡◌, ℕ, zero, suc, Bool, true, false, not, refl, ap, ◌∙◌, List, [], ◌∷◌}
-use Rattle.std.specs.Prelude.{◌&&◌, pos}
-use Rattle.std.specs.Ordering.{int_eq}
-use Rattle.l2_bits.specs.Values.{wrap}
-use Rattle.l2_runs.specs.declared.cells.CellValue.TheVariants.{Number}
+use Rattle.std.specs.Prelude.{◌&&◌}
 use Rattle.l2_runs.specs.declared.outcome.Outcome.TheVariants.{Stopped}
 use Rattle.l2_runs.specs.Runs.{Over, Fallen}
 use Rattle.l2_code.specs.declared.action.Operand.{Operand}
 use Rattle.l2_code.specs.declared.action.Operand.TheVariants.{Temp}
 use Rattle.l2_code.specs.Values.{is_true}
 use Rattle.l2_code.specs.Machine.{Way, On, Out}
-use Rattle.l2_supply.specs.Supply.{Supply, left, right, number_of, Place, Come, Goes, Ends}
-use Rattle.l2_ssa.specs.Steps.{Names, on, bit, Meaning, Solves}
-use Rattle.l2_ssa.specs.Walks.{Frame, Block, Last, Early, Given, nothing, entering, chosen, taken, half, pair, leave_steps, leave_path}
+use Rattle.l2_supply.specs.Supply.{Place, Come, Goes, Ends}
+use Rattle.l2_ssa.specs.Steps.{Names, on, Meaning, Solves}
+use Rattle.l2_ssa.specs.Walks.{Frame, Block, Last, Early, leave_steps, leave_path}
 use Rattle.l2_ssa.proofs.Labels.{bit_on}
 
 module _ (s : Names) where

@@ -10,5 +10,6 @@ pub mod Turns
 pub mod Copies
 pub mod Whole
 pub mod Givens
-pub mod Solutions
 pub mod Enters
+pub mod Solutions
+pub mod Orders

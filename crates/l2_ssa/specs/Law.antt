@@ -163,4 +163,4 @@ RunsSolve =
     → (choices : List ℤ) (turns : ℕ) (x : End) → IsFailure x
     → EndsAt x (run_code c (limit_of c f (Cut k (starts row (setting_of c f k kind)))) (tests row lower (setting_of c f k kind)) (start c choices turns))
     → (u : Supply) × ((s : Names) → Solves (record { types = types_of c; row = row; lower = lower }) s 0 (ssa c f k kind).steps → Matches s (ssa c f k kind).given u
-        → HasEnd s (setting_of c f k kind) x (ssa c f k kind).events)
+    → HasEnd s (setting_of c f k kind) x (ssa c f k kind).events)
