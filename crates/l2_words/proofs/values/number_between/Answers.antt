@@ -1,4 +1,4 @@
-use Rattle.std.proofs.Common.{◌≡◌, sym}
+use Rattle.std.proofs.Common.{sym}
 use Rattle.l2_words.proofs.Digits.{number_read, number_missing, read_between}
 use Rattle.l2_words.proofs.values.number_between.Goals as goal
 
