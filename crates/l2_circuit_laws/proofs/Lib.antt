@@ -1,0 +1,10 @@
+pub mod Columns
+pub mod Made
+pub mod Numbers
+pub mod Products
+pub mod Quotients
+pub mod Shown
+pub mod Signed
+pub mod Constants
+pub mod Makings
+pub mod Choices

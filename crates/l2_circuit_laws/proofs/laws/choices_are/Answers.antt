@@ -1,0 +1,5 @@
+use Rattle.l2_circuit_laws.proofs.Products as products
+use Rattle.l2_circuit_laws.proofs.laws.choices_are.Goals as goal
+
+pub returns : goal.returns
+returns c = products.choices_are

@@ -1,0 +1,5 @@
+use Rattle.l2_circuit_laws.proofs.Numbers as numbers
+use Rattle.l2_circuit_laws.proofs.laws.sums_are.Goals as goal
+
+pub returns : goal.returns
+returns c = numbers.sums_are

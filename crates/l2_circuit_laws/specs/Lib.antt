@@ -1,0 +1,4 @@
+pub mod Values
+pub mod Law
+pub mod Shows
+pub mod Making
