@@ -4,10 +4,9 @@ ghost use Rattle.l2_bits.specs.Values.{IsValue};
 
 use l2_bits::{Ty, add, and, convert, div, mul, rem, shl, shr, sub, wrap};
 use l2_circuits::{
-    ands, constant, convert as convert_word, eq, less, mul as product, quotients, shift_left,
-    shift_right, sub as difference, sum,
+    ands, constant, convert as convert_word, eq, falsity, less, mul as product, quotients,
+    shift_left, shift_right, sub as difference, sum,
 };
-use l2_circuits::falsity;
 use l2_cnf::Lit;
 use l2_gates::Gates;
 use std::alloc::{AllocError, Global};
@@ -36,7 +35,9 @@ fn bits_of(word: &[Lit]) -> u64 {
         if bit.var() != 1 {
             return u64::MAX;
         }
-        bits = bits.saturating_mul(2).saturating_add(u64::from(bit.is_positive()));
+        bits = bits
+            .saturating_mul(2)
+            .saturating_add(u64::from(bit.is_positive()));
     }
     bits
 }
@@ -120,7 +121,10 @@ pub fn differences(alloc: Global, trial: Trial, ty: Ty, first: i8) -> Result<u32
     let mut count: u32 = 0;
     for a in 0..256_u32 {
         for b in 0..256_u32 {
-            let (x, y) = (i128::from(first) + i128::from(a), i128::from(first) + i128::from(b));
+            let (x, y) = (
+                i128::from(first) + i128::from(a),
+                i128::from(first) + i128::from(b),
+            );
             if !agrees(alloc, &mut gates, trial, ty, x, y)? {
                 count = count.saturating_add(1);
             }
