@@ -1,15 +1,20 @@
--- The answer of an execution, as an answer to a replay.
-use Rattle.std.proofs.Common.{◌≡◌, ℕ, ℤ, List, Result, Ok, Err, string_bytes, IfOk, refl}
+-- Executions on values files.
+use Rattle.std.proofs.Common.{◌≡◌, ℕ, ℤ, List, codes, Result, Ok, Err, IfOk, refl}
 use Rattle.l2_witness.specs.ValuesFile.{InRange, spelling}
-use Rattle.l2_program.specs.Programs.{ProgramTree}
 use Rattle.l2_runs.specs.Loops.{Real, no_tests}
+use Rattle.l2_program.specs.Programs.{ProgramTree}
 use Rattle.l2_meaning.specs.Execution.{exec}
 use Rattle.l2_answer.specs.declared.status.Answer.{Answer}
-use Rattle.l2_answer.specs.Programs.{IsProgram}
-use Rattle.l2_answer.specs.Replays.{Ends, Replays, executed}
+use Rattle.l2_answer.specs.declared.status.Status.TheVariants.{FileRefused}
+use Rattle.l2_answer.specs.Replays.{Ends, IsNoValues, ReplaysOn, executed, values_refused}
 
-pub executes : {E : Type 0} (text values : List ℕ) (p : ProgramTree) (turns : ℕ) (choices : List ℤ) → IsProgram text p → InRange turns choices → values ≡ spelling turns choices →
-    (r : Result Answer E) → IfOk r (λ a. Ends p (exec p Real no_tests choices turns) a.status (string_bytes a.line)) → IfOk r (λ a. Replays text values a.status (string_bytes a.line))
-executes text values p turns choices is range spelt (Ok a) ends =
-    executed p (exec p Real no_tests choices turns) (record { is_program = is; turns = turns; choices = choices; in_range = range; values_spelt = spelt; executed = refl }) ends
-executes text values p turns choices is range spelt (Err x) ends = tt
+pub executes : {E : Type 0} (values : List ℕ) (p : ProgramTree) (turns : ℕ) (choices : List ℤ) → InRange turns choices → values ≡ spelling turns choices →
+    (r : Result Answer E) → IfOk r (λ a. Ends p (exec p Real no_tests choices turns) a.status a.output.items) → IfOk r (λ a. ReplaysOn values p a.status a.output.items)
+executes values p turns choices range spelt (Ok a) ends =
+    executed (exec p Real no_tests choices turns) (record { turns = turns; choices = choices; in_range = range; values_spelt = spelt; executed = refl }) ends
+executes values p turns choices range spelt (Err x) ends = tt
+
+pub no_values : {E : Type 0} (values : List ℕ) (p : ProgramTree) → IsNoValues values →
+    (r : Result Answer E) → IfOk r (λ a. (a.status ≡ FileRefused) × (a.output.items ≡ codes "VALUES BadLine 0\n")) → IfOk r (λ a. ReplaysOn values p a.status a.output.items)
+no_values values p none (Ok a) (s, l) = values_refused none s l
+no_values values p none (Err x) said = tt

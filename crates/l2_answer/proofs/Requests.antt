@@ -1,40 +1,57 @@
--- The answers to a replay, by what its files hold.
-use Rattle.std.proofs.Common.{◌≡◌, ℕ, List, [], ◌∷◌, Option, Some, Result, Ok, Err, string_bytes, IfOk, subst, refl, ap, ◌∙◌}
+-- The answers to a request, by what its files hold.
+use Rattle.std.proofs.Common.{◌≡◌, ℕ, List, [], ◌∷◌, Option, Some, Result, Ok, Err, IfOk, subst, refl}
 use Rattle.l2_outside.specs.Outside.{Files, Rose}
 use Rattle.l2_inputs.specs.Inputs.{Input, AreRead, HasFault, IsTooLong}
 use Rattle.l2_inputs.specs.declared.input.InputError.{InputError}
 use Rattle.l2_inputs.specs.declared.input.InputError.TheVariants as error
-use Rattle.l2_request.specs.Requests.{Request, Replay, command, text, values_file, inputs}
+use Rattle.l2_request.specs.declared.request.View.{View}
+use Rattle.l2_request.specs.Requests.{Request, Replay, Show, command, text, values_file, inputs}
 use Rattle.l2_answer.specs.declared.status.Answer.{Answer}
 use Rattle.l2_answer.specs.Replays.{Replays}
-use Rattle.l2_answer.specs.Answers.{Answers, IsUnread, unreadable, over_limit, judged}
+use Rattle.l2_answer.specs.Shows.{Shows}
+use Rattle.l2_answer.specs.Answers.{Judges, Answers, IsUnread, unreadable, over_limit, judged}
 
 -- these two inputs are those of a replay
 pub replay_inputs : (file values : List ℕ) (i j : Input) → i ≡ text file → j ≡ values_file values → i ∷ j ∷ [] ≡ inputs (Replay file values)
 replay_inputs file values i j e f = λ k. e k ∷ f k ∷ []
 
+-- this input is that of a show
+pub show_inputs : (view : View) (file : List ℕ) (i : Input) → i ≡ text file → i ∷ [] ≡ inputs (Show view file)
+show_inputs view file i e = λ k. e k ∷ []
+
+judged_so : {E : Type 0} (files : Option Files) (before now : ℕ) (words : List (List ℕ)) (r : Request) (all : List Input) (contents : List (List ℕ)) →
+    command words ≡ Some r → all ≡ inputs r → AreRead files all contents →
+    (a : Result Answer E) → IfOk a (λ a. Judges r contents a.status a.output.items) → IfOk a (λ a. Answers files before now words a.status a.output.items)
+judged_so files before now words r all contents asks e read (Ok a) judges = judged r contents asks (subst (λ all. AreRead files all contents) e read) judges
+judged_so files before now words r all contents asks e read (Err x) judges = tt
+
 pub judged_replay : {E : Type 0} (files : Option Files) (before now : ℕ) (words : List (List ℕ)) (file values : List ℕ) (i j : Input) (t v t' v' : List ℕ) →
     command words ≡ Some (Replay file values) → i ≡ text file → j ≡ values_file values →
     AreRead files (i ∷ j ∷ []) (t ∷ v ∷ []) → t' ≡ t → v' ≡ v →
-    (r : Result Answer E) → IfOk r (λ a. Replays t' v' a.status (string_bytes a.line)) → IfOk r (λ a. Answers files before now words a.status (string_bytes a.line))
-judged_replay files before now words file values i j t v t' v' asks e f read p q (Ok a) replays =
-    judged (Replay file values) (t ∷ v ∷ []) asks (subst (λ all. AreRead files all (t ∷ v ∷ [])) (replay_inputs file values i j e f) read)
-    (subst (λ x. Replays t x a.status (string_bytes a.line)) q (subst (λ x. Replays x v' a.status (string_bytes a.line)) p replays))
-judged_replay files before now words file values i j t v t' v' asks e f read p q (Err x) replays = tt
+    (r : Result Answer E) → IfOk r (λ a. Replays t' v' a.status a.output.items) → IfOk r (λ a. Answers files before now words a.status a.output.items)
+judged_replay files before now words file values i j t v t' v' asks e f read p q r replays =
+    judged_so files before now words (Replay file values) (i ∷ j ∷ []) (t ∷ v ∷ []) asks (replay_inputs file values i j e f) read r
+    (subst (λ x. IfOk r (λ a. Replays t x a.status a.output.items)) q (subst (λ x. IfOk r (λ a. Replays x v' a.status a.output.items)) p replays))
+
+pub judged_show : {E : Type 0} (files : Option Files) (before now : ℕ) (words : List (List ℕ)) (view : View) (file : List ℕ) (i : Input) (t t' : List ℕ) →
+    command words ≡ Some (Show view file) → i ≡ text file → AreRead files (i ∷ []) (t ∷ []) → t' ≡ t →
+    (r : Result Answer E) → IfOk r (λ a. Shows view t' a.status a.output.items) → IfOk r (λ a. Answers files before now words a.status a.output.items)
+judged_show files before now words view file i t t' asks e read p r shows =
+    judged_so files before now words (Show view file) (i ∷ []) (t ∷ []) asks (show_inputs view file i e) read r
+    (subst (λ x. IfOk r (λ a. Shows view x a.status a.output.items)) p shows)
 
 answers_unread : (files : Option Files) (before now : ℕ) (words : List (List ℕ)) (r : Request) (x : InputError) (a : Answer) → command words ≡ Some r →
     (x ≡ error.Fault → HasFault files (Rose before now) (inputs r)) → (x ≡ error.TooLong → IsTooLong files (inputs r)) →
-    IsUnread x a.status (string_bytes a.line) → Answers files before now words a.status (string_bytes a.line)
+    IsUnread x a.status a.output.items → Answers files before now words a.status a.output.items
 answers_unread files before now words r error.Fault a asks fault long (s, l) = unreadable r asks (fault refl) s l
 answers_unread files before now words r error.TooLong a asks fault long (s, l) = over_limit r asks (long refl) s l
 answers_unread files before now words r error.NoMemory a asks fault long u = absurd u
 
-pub unread_replay : {E : Type 0} (files : Option Files) (before now : ℕ) (words : List (List ℕ)) (file values : List ℕ) (i j : Input) (x : InputError) →
-    command words ≡ Some (Replay file values) → i ≡ text file → j ≡ values_file values →
-    (x ≡ error.Fault → HasFault files (Rose before now) (i ∷ j ∷ [])) → (x ≡ error.TooLong → IsTooLong files (i ∷ j ∷ [])) →
-    (r : Result Answer E) → IfOk r (λ a. IsUnread x a.status (string_bytes a.line)) → IfOk r (λ a. Answers files before now words a.status (string_bytes a.line))
-unread_replay files before now words file values i j x asks e f fault long (Ok a) unread =
-    let two = replay_inputs file values i j e f in
-    answers_unread files before now words (Replay file values) x a asks
-    (λ q. subst (λ all. HasFault files (Rose before now) all) two (fault q)) (λ q. subst (λ all. IsTooLong files all) two (long q)) unread
-unread_replay files before now words file values i j x asks e f fault long (Err y) unread = tt
+pub unread : {E : Type 0} (files : Option Files) (before now : ℕ) (words : List (List ℕ)) (r : Request) (all : List Input) (x : InputError) →
+    command words ≡ Some r → all ≡ inputs r →
+    (x ≡ error.Fault → HasFault files (Rose before now) all) → (x ≡ error.TooLong → IsTooLong files all) →
+    (a : Result Answer E) → IfOk a (λ a. IsUnread x a.status a.output.items) → IfOk a (λ a. Answers files before now words a.status a.output.items)
+unread files before now words r all x asks e fault long (Ok a) is =
+    answers_unread files before now words r x a asks
+    (λ q. subst (λ all. HasFault files (Rose before now) all) e (fault q)) (λ q. subst (λ all. IsTooLong files all) e (long q)) is
+unread files before now words r all x asks e fault long (Err y) is = tt

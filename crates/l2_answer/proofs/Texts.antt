@@ -1,24 +1,26 @@
--- Texts that are no program.
-use Rattle.std.proofs.Common.{◌≡◌, ℕ, List, Some, None, sym, ap, ◌∙◌, subst}
-use Rattle.l2_syntax.specs.declared.refusal.Refusal.{Refusal}
-use Rattle.l2_lex.specs.Lexing.{Lexed, tokens_of}
-use Rattle.l2_tree.specs.Trees.{UnitTree}
-use Rattle.l2_parse_unit.specs.Reading.{Spells, SpellsText, IsRefused, IsTextRefused, UniqueUnitLaw, RefusedLaw}
-use Rattle.l2_answer.specs.Programs.{small_program, IsProgram, IsNoProgram, IsRefusalOf, not_built, unread, not_built_yet}
+-- Answers about a text, by its program or by its fault.
+use Rattle.std.proofs.Common.{ℕ, List, Result, Ok, Err, IfOk}
+use Rattle.l2_syntax.specs.declared.refusal.TextFault.{TextFault}
+use Rattle.l2_syntax.specs.declared.refusal.TextFault.TheVariants as fault
+use Rattle.l2_program.specs.Programs.{ProgramTree}
+use Rattle.l2_parse_unit.specs.Reading.{OnRefusal}
+use Rattle.l2_front.specs.Programs.{IsProgram, IsNoProgram, IsRefusalOf}
+use Rattle.l2_answer.specs.declared.status.Status.{Status}
+use Rattle.l2_answer.specs.declared.status.Answer.{Answer}
+use Rattle.l2_answer.specs.Texts.{OfText, taken, refused, IsRefused}
 
--- the one unit that the text spells has no program
-pub no_program : (text : List ℕ) (u : UnitTree) → UniqueUnitLaw → SpellsText text u → small_program u ≡ None → IsNoProgram text
-no_program text u unique s none = λ p is.
-    let none_too : small_program is.unit ≡ None = ap small_program (unique (tokens_of text) is.unit u is.spelt s) ∙ none in
-    let some = is.program in
-    cc
+pub of_program : {E : Type 0} (text : List ℕ) (ComesTo : ProgramTree → Status → List ℕ → Type 0) (p : ProgramTree) → IsProgram text p →
+    (r : Result Answer E) → IfOk r (λ a. ComesTo p a.status a.output.items) → IfOk r (λ a. OfText text ComesTo a.status a.output.items)
+of_program text ComesTo p is (Ok a) comes = taken p is comes
+of_program text ComesTo p is (Err x) comes = tt
 
-pub is_not_built : (text : List ℕ) (r : Lexed) (u : UnitTree) → UniqueUnitLaw → r ≡ tokens_of text → Spells r u → small_program u ≡ None → IsNoProgram text × IsRefusalOf text not_built_yet
-is_not_built text r u unique e s none =
-    let t : SpellsText text u = subst (λ x. Spells x u) e s in
-    (no_program text u unique t none, not_built u t none)
+refused_so : (text : List ℕ) (ComesTo : ProgramTree → Status → List ℕ → Type 0) (x : TextFault) (status : Status) (output : List ℕ) →
+    OnRefusal x (λ f. IsNoProgram text × IsRefusalOf text f) → IsRefused x status output → OfText text ComesTo status output
+refused_so text ComesTo (fault.At f) status output (none, is) (s, l) = refused f none is s l
+refused_so text ComesTo fault.NoMemory status output why u = absurd u
 
-pub is_unread : (text : List ℕ) (r : Lexed) (f : Refusal) → RefusedLaw → r ≡ tokens_of text → IsRefused r f → IsNoProgram text × IsRefusalOf text f
-is_unread text r f law e h =
-    let t : IsTextRefused text f = subst (λ x. IsRefused x f) e h in
-    ((λ p is. law (tokens_of text) f is.unit t is.spelt), unread f t)
+pub of_fault : {E : Type 0} (text : List ℕ) (ComesTo : ProgramTree → Status → List ℕ → Type 0) (x : TextFault) →
+    OnRefusal x (λ f. IsNoProgram text × IsRefusalOf text f) →
+    (r : Result Answer E) → IfOk r (λ a. IsRefused x a.status a.output.items) → IfOk r (λ a. OfText text ComesTo a.status a.output.items)
+of_fault text ComesTo x why (Ok a) is = refused_so text ComesTo x a.status a.output.items why is
+of_fault text ComesTo x why (Err y) is = tt

@@ -1,5 +1,6 @@
 pub mod Answers
 pub mod Printed
-pub mod Programs
 pub mod Replays
+pub mod Shows
 pub mod Statuses
+pub mod Texts

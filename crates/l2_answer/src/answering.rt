@@ -1,29 +1,20 @@
-ghost use Rattle.std.specs.Prelude.{◌≡◌, ◌≤◌, IfOk, string_bytes, Some, List, ℕ, codes};
+ghost use Rattle.std.specs.Prelude.{◌≡◌, ◌≤◌, IfOk, Some, List, ℕ, codes};
 ghost use Rattle.l2_outside.specs.Outside.{Rose};
 ghost use Rattle.l2_request.specs.Words.{texts};
-ghost use Rattle.l2_request.specs.Requests.{Replay, command};
+ghost use Rattle.l2_request.specs.Requests.{Replay, Show, command};
 ghost use Rattle.l2_answer.specs.Answers.{Answers, IsUnread};
 
 use crate::replay_answer::replay_answer;
-use crate::status::{Answer, Status};
-use l2_inputs::{InputError, read_two};
+use crate::show_answer::show_answer;
+use crate::status::{Answer, Status, fixed};
+use l2_inputs::{InputError, read_one, read_two};
 use l2_outside::Shelf;
-use l2_request::{Request, WordsError, command, text, values_file};
+use l2_request::{Request, View, WordsError, command, text, values_file};
 use std::alloc::{AllocError, Global};
-
-/// An answer whose line is the same for all words and files.
-fn fixed(alloc: Global, status: Status, line: &str) -> Result<Answer, AllocError>
-    ensures { IfOk result (λ a. (a.status ≡ status) × (string_bytes a.line ≡ line.now)) }
-{
-    Ok(Answer {
-        status,
-        line: String::from_str(alloc, line)?,
-    })
-}
 
 /// The answer where a request's files were not read.
 fn unread(alloc: Global, error: InputError) -> Result<Answer, AllocError>
-    ensures { IfOk result (λ a. IsUnread error a.status (string_bytes a.line)) }
+    ensures { IfOk result (λ a. IsUnread error a.status a.output.items) }
 {
     match error {
         InputError::Fault => fixed(alloc, Status::ReadFault, "READ FAULT\n"),
@@ -40,13 +31,32 @@ fn answer_replay<H: Shelf>(
     shelf: &mut H,
 ) -> Result<Answer, AllocError>
     ensures answers { (words : List (List ℕ)) → command words ≡ Some (Replay file.now values.now) →
-        IfOk result (λ a. Answers (H.files shelf.old) (H.read_faults shelf.old) (H.read_faults shelf.new) words a.status (string_bytes a.line)) }
+        IfOk result (λ a. Answers (H.files shelf.old) (H.read_faults shelf.old) (H.read_faults shelf.new) words a.status a.output.items) }
     ensures files { H.files shelf.new ≡ H.files shelf.old }
     ensures read_faults { H.read_faults shelf.old ≤ H.read_faults shelf.new }
     ensures write_faults { H.write_faults shelf.new ≡ H.write_faults shelf.old }
 {
     match read_two(alloc, text(file), values_file(values), shelf) {
         Ok((text, values)) => replay_answer(alloc, &text, &values),
+        Err(error) => unread(alloc, error),
+    }
+}
+
+/// The answer of `show WHAT FILE`.
+fn answer_show<H: Shelf>(
+    alloc: Global,
+    view: View,
+    file: &str,
+    shelf: &mut H,
+) -> Result<Answer, AllocError>
+    ensures answers { (words : List (List ℕ)) → command words ≡ Some (Show view file.now) →
+        IfOk result (λ a. Answers (H.files shelf.old) (H.read_faults shelf.old) (H.read_faults shelf.new) words a.status a.output.items) }
+    ensures files { H.files shelf.new ≡ H.files shelf.old }
+    ensures read_faults { H.read_faults shelf.old ≤ H.read_faults shelf.new }
+    ensures write_faults { H.write_faults shelf.new ≡ H.write_faults shelf.old }
+{
+    match read_one(alloc, text(file), shelf) {
+        Ok(text) => show_answer(alloc, view, &text),
         Err(error) => unread(alloc, error),
     }
 }
@@ -58,13 +68,14 @@ pub fn answer<H: Shelf>(
     shelf: &mut H,
 ) -> Result<Answer, AllocError>
     ensures answers { IfOk result (λ a. Answers (H.files shelf.old) (H.read_faults shelf.old) (H.read_faults shelf.new)
-        (texts words.now) a.status (string_bytes a.line)) }
+        (texts words.now) a.status a.output.items) }
     ensures files { H.files shelf.new ≡ H.files shelf.old }
     ensures read_faults { H.read_faults shelf.old ≤ H.read_faults shelf.new }
     ensures write_faults { H.write_faults shelf.new ≡ H.write_faults shelf.old }
 {
     match command(alloc, words) {
         Ok(Request::Replay { file, values }) => answer_replay(alloc, file, values, shelf),
+        Ok(Request::Show { view, file }) => answer_show(alloc, view, file, shelf),
         Err(WordsError::Usage) => fixed(alloc, Status::Usage, "USAGE\n"),
         Err(WordsError::NoMemory) => Err(AllocError),
     }

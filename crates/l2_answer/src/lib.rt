@@ -4,9 +4,10 @@
 mod answering;
 mod laws;
 mod line;
-mod program;
 mod replay_answer;
+mod show_answer;
 mod status;
+mod text_answer;
 
 pub use answering::answer;
 pub use laws::status_law;

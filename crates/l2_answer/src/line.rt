@@ -72,9 +72,9 @@ pub fn replay_line(
     alloc: Global,
     checks: &[CheckInfo],
     replay: Replay,
-) -> Result<String, AllocError>
+) -> Result<Vec<u8>, AllocError>
     requires { ListsBroken checks.now replay.outcome }
-    ensures { IfOk result (λ s. replay_line checks.now replay.outcome replay.turns_used replay.choices_used ≡ Some (string_bytes s)) }
+    ensures { IfOk result (λ line. replay_line checks.now replay.outcome replay.turns_used replay.choices_used ≡ Some line.items) }
 {
     let mut text = outcome_text(alloc, checks, replay.outcome)?;
     text.push_str(" turns=")?;
@@ -82,12 +82,12 @@ pub fn replay_line(
     text.push_str(" choices=")?;
     push_number(alloc, &mut text, replay.choices_used)?;
     text.push_str("\n")?;
-    Ok(text)
+    Ok(text.into_bytes())
 }
 
 /// The line that is printed for a text that is refused.
-pub fn refusal_line(alloc: Global, refusal: Refusal) -> Result<String, AllocError>
-    ensures { IfOk result (λ s. string_bytes s ≡ refusal_line refusal) }
+pub fn refusal_line(alloc: Global, refusal: Refusal) -> Result<Vec<u8>, AllocError>
+    ensures { IfOk result (λ line. line.items ≡ refusal_line refusal) }
 {
     let place = place_text(alloc, refusal.place)?;
     let mut text = String::from_str(alloc, "REFUSED ")?;
@@ -95,5 +95,5 @@ pub fn refusal_line(alloc: Global, refusal: Refusal) -> Result<String, AllocErro
     text.push_str(" ")?;
     text.push_str(refusal.rule.name())?;
     text.push_str("\n")?;
-    Ok(text)
+    Ok(text.into_bytes())
 }

@@ -1,7 +1,8 @@
-ghost use Rattle.std.specs.Prelude.{◌≡◌};
+ghost use Rattle.std.specs.Prelude.{◌≡◌, IfOk};
 ghost use Rattle.l2_answer.specs.Statuses.{status_number, status_of};
 
 use l2_runs::Outcome;
+use std::alloc::{AllocError, Global};
 
 /// How a run ends.
 #[derive(Clone, Copy, Debug, PartialEq, Eq)]
@@ -48,8 +49,8 @@ impl Status {
 #[derive(Debug, Drop)]
 pub struct Answer {
     pub status: Status,
-    /// With its LF.
-    pub line: String,
+    /// What is printed: whole lines, each with its LF.
+    pub output: Vec<u8>,
 }
 
 /// The status that a replay with this outcome ends with.
@@ -63,4 +64,14 @@ pub fn status_of(outcome: Outcome) -> Status
         Outcome::OutOfChoices => Status::Short,
         Outcome::OutOfTurns => Status::Short,
     }
+}
+
+/// An answer whose line is the same for all words and files.
+pub fn fixed(alloc: Global, status: Status, line: &str) -> Result<Answer, AllocError>
+    ensures { IfOk result (λ a. (a.status ≡ status) × (a.output.items ≡ line.now)) }
+{
+    Ok(Answer {
+        status,
+        output: String::from_str(alloc, line)?.into_bytes(),
+    })
 }

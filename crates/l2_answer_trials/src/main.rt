@@ -2,6 +2,7 @@
 #![tactic(auto)]
 
 mod rows;
+mod shows;
 mod trial;
 
 use std::process::ExitCode;
@@ -12,6 +13,9 @@ fn main(rt: HostRuntime) -> ExitCode {
         && rows::refusals(&rt, alloc)
         && rows::limits(&rt, alloc)
         && rows::faults(&rt, alloc)
-        && rows::commands(&rt, alloc);
+        && rows::commands(&rt, alloc)
+        && shows::programs(&rt, alloc)
+        && shows::refusals(&rt, alloc)
+        && shows::commands(&rt, alloc);
     ExitCode::from(u8::from(!all))
 }

@@ -16,6 +16,9 @@ const WRAPS: &str =
 const DIRECTIVES: &str =
     "# 1 \"ex.c\"\n#define N 3\nint main(void){int x=N;assert(x==3);return 0;}";
 
+const LEAST: &str =
+    "#include <limits.h>\nint main(void){int x=INT_MIN;while(x<0){x=-(x+1);}assert(x==INT_MAX);return 0;}";
+
 const SHADOWS: &str = "int main(void){int x=1;if(x){int x=2;}return 0;}";
 
 /// A text on a values file with these lines behind its first.
@@ -40,6 +43,7 @@ pub fn executions(rt: &HostRuntime, alloc: Global) -> bool {
         && on(rt, alloc, NESTED, "turns 12\nend\n")
         && on(rt, alloc, WRAPS, "turns 0\nend\n")
         && on(rt, alloc, DIRECTIVES, "turns 0\nend\n")
+        && on(rt, alloc, LEAST, "turns 2\nend\n")
 }
 
 /// A text that is refused.

@@ -26,7 +26,7 @@ pub fn shelf(
 /// The status and the bytes that a sink with room for this many takes of an answer, seven at once.
 fn delivered(alloc: Global, given: &Answer, room: usize) -> Result<String, AllocError> {
     let mut sink = MemSink::new(alloc, room, 7, Vec::new(alloc))?;
-    let status = match write_text(given.line.as_bytes(), &mut sink) {
+    let status = match write_text(given.output.as_slice(), &mut sink) {
         Ok(()) => given.status,
         Err(Failed) => Status::WriteFault,
     };

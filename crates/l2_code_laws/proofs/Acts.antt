@@ -178,7 +178,7 @@ module _ (names : Names) (f : Family) (small : (n : ℕ) → length (names.objec
       any_end (Some n) = tt
 
       mutual
-        node_holds : (b : Bool) (x : Node) (scope : Scope) (t : Temps) → IsTypedNode names scope x → IsClosedNode f x → Held scope t
+        pub node_holds : (b : Bool) (x : Node) (scope : Scope) (t : Temps) → IsTypedNode names scope x → IsClosedNode f x → Held scope t
             → Preserves Inv (WayHolds names.objects f (behind_node scope x)) (node g b x t)
         node_holds b (Do a) scope t h z k = act_holds b a scope t h z k
         node_holds b (Block all) scope t h z k =

@@ -30,7 +30,7 @@ module _ (layout : Layout) where
       CellsFit layout types (map value_in (take (length types) values)) × Rest (drop (length types) values)
   held_fits n f [] values Rest h = (tt, h)
   held_fits n f (t ∷ types) [] Rest h = absurd h
-  held_fits n f (t ∷ types) (s ∷ values) Rest (o, i, p, q) = let r = held_fits n (suc f) types values Rest q in ((p, r.0), r.1)
+  held_fits n f (t ∷ types) (s ∷ values) Rest (o, i, p, g, q) = let r = held_fits n (suc f) types values Rest q in ((p, r.0), r.1)
 
   start_fits : (n : ℕ) (os : List ObjectInfo) (values : List StaticValue) → HoldStatics layout n os values → (i : ℕ) →
       CellsFit layout (known_cells (slice_get os i)) (or_nothing (slice_get (first_objects values os) i)).cells

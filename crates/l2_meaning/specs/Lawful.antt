@@ -1,9 +1,11 @@
 -- Programs whose trees are typed, name what is in scope, and have what the lists say.
-use Rattle.std.specs.Prelude.{◌≡◌, ℕ, suc, ◌+◌, ◌<◌, ◌≤◌, ◌==◌, Bool, true, false, ◌&&◌, List, [], ◌∷◌, ◌++◌, length, map, Option, Some, None, ◌⊎◌}
+use Rattle.std.specs.Prelude.{◌≡◌, ℕ, suc, ◌+◌, ◌<◌, ◌≤◌, ◌==◌, Bool, true, false, ◌&&◌, List, [], ◌∷◌, ◌++◌, length, map, Option, Some, None, ◌⊎◌, All}
 use Rattle.l2_bits.specs.declared.types.Ty.{Ty}
 use Rattle.l2_bits.specs.Types.{int_type}
 use Rattle.l2_runs.specs.declared.cells.CellType.{CellType}
 use Rattle.l2_runs.specs.declared.cells.CellType.TheVariants.{Integer, Pointer}
+use Rattle.l2_runs.specs.declared.cells.CellValue.{CellValue}
+use Rattle.l2_runs.specs.declared.cells.CellValue.TheVariants.{Number, Null, Invalid, At}
 use Rattle.l2_runs.specs.Numbers.{at_number, numbers_where}
 use Rattle.l2_runs.specs.Fits.{Layout, CellFits}
 use Rattle.l2_runs.specs.declared.kind.Kind.{Kind}
@@ -17,17 +19,16 @@ use Rattle.l2_program.specs.Types.{type_of, is_computing, is_arithmetic}
 use Rattle.l2_program.specs.Names.{declared_in, loops_in, checks_in}
 use Rattle.l2_program.specs.Programs.{ProgramTree, FunctionTree}
 use Rattle.l2_meaning.specs.Execution.{cells_of, main_among}
+use Rattle.l2_meaning.specs.Scopes.{behind, statics_of}
+use Rattle.l2_meaning.specs.Pointing.{Sets, ArePointsTo}
+use Rattle.l2_meaning.specs.Rising.{Rise}
+use Rattle.l2_meaning.specs.Changes.{is_integer, function_loop_sets, HaveSets}
 
 abbrev pub IsIn : ℕ → List ℕ → Type 0
 IsIn n [] = ⊥
 IsIn n (m ∷ ms) = (n ≡ m) ⊎ IsIn n ms
 
 -- ---- types
-
-abbrev pub IsScalar : List CellType → Type 0
-IsScalar [] = ⊥
-IsScalar (t ∷ []) = Unit {0}
-IsScalar (t ∷ u ∷ types) = ⊥
 
 abbrev pub IsInteger : List CellType → Type 0
 IsInteger [] = ⊥
@@ -48,7 +49,7 @@ IsTyped cells (Unary op ty c e) = IsTyped cells e × (type_of e ≡ Integer ty �
 IsTyped cells (Binary op ty c x y) = IsTyped cells x × (type_of x ≡ Integer ty ∷ []) × IsTyped cells y × (type_of y ≡ Integer ty ∷ [])
 IsTyped cells (Convert ty e) = IsTyped cells e × IsInteger (type_of e)
 IsTyped cells (Assign ty l e) = IsTypedLvalue cells (ty ∷ []) l × IsTyped cells e × (type_of e ≡ ty ∷ [])
-IsTyped cells (Assert c e) = IsTyped cells e × IsScalar (type_of e)
+IsTyped cells (Assert c e) = IsTyped cells e × IsInteger (type_of e)
 
 abbrev mutual
   -- in a function that returns such a value
@@ -59,9 +60,9 @@ abbrev mutual
   IsTypedStatement cells result (Initialise n e) = IsTyped cells e × (cells n ≡ type_of e)
   IsTypedStatement cells result (Label n) = Unit {0}
   IsTypedStatement cells result (Evaluate e) = IsTyped cells e
-  IsTypedStatement cells result (If e s) = IsTyped cells e × IsScalar (type_of e) × IsTypedStatement cells result s
-  IsTypedStatement cells result (IfElse e s t) = IsTyped cells e × IsScalar (type_of e) × IsTypedStatement cells result s × IsTypedStatement cells result t
-  IsTypedStatement cells result (While l named e s) = IsTyped cells e × IsScalar (type_of e) × IsTypedStatement cells result s
+  IsTypedStatement cells result (If e s) = IsTyped cells e × IsInteger (type_of e) × IsTypedStatement cells result s
+  IsTypedStatement cells result (IfElse e s t) = IsTyped cells e × IsInteger (type_of e) × IsTypedStatement cells result s × IsTypedStatement cells result t
+  IsTypedStatement cells result (While l named e s) = IsTyped cells e × IsInteger (type_of e) × IsTypedStatement cells result s
   IsTypedStatement cells result (Return e) = IsTyped cells e × (type_of e ≡ result)
 
   pub AreTyped : Layout → List CellType → CheckedTrees → Type 0
@@ -135,11 +136,12 @@ IsScoped is_static scope (Convert ty e) = IsScoped is_static scope e
 IsScoped is_static scope (Assign ty l e) = IsScopedLvalue is_static scope l × IsScoped is_static scope e
 IsScoped is_static scope (Assert c e) = IsScoped is_static scope e
 
--- the scope behind an item
-abbrev pub behind : List ℕ → CheckedTree → List ℕ
-behind scope (Declare n) = scope ++ n ∷ []
-behind scope (Initialise n e) = scope ++ n ∷ []
-behind scope s = scope
+-- a declaration is no statement, so it isn't what a loop or a branch does (C11 6.8)
+abbrev pub IsNoDeclaration : CheckedTree → Type 0
+IsNoDeclaration (Declare n) = ⊥
+IsNoDeclaration (Static n) = ⊥
+IsNoDeclaration (Initialise n e) = ⊥
+IsNoDeclaration s = Unit {0}
 
 abbrev mutual
   -- an object is in scope in its own initialiser, and from there to the end of its block (C11 6.2.1); its declaration has its storage
@@ -150,9 +152,10 @@ abbrev mutual
   IsScopedStatement is_static scope (Initialise n e) = (is_static n ≡ false) × IsScoped is_static (scope ++ n ∷ []) e
   IsScopedStatement is_static scope (Label n) = Unit {0}
   IsScopedStatement is_static scope (Evaluate e) = IsScoped is_static scope e
-  IsScopedStatement is_static scope (If e s) = IsScoped is_static scope e × IsScopedStatement is_static scope s
-  IsScopedStatement is_static scope (IfElse e s t) = IsScoped is_static scope e × IsScopedStatement is_static scope s × IsScopedStatement is_static scope t
-  IsScopedStatement is_static scope (While l named e s) = IsScoped is_static scope e × IsScopedStatement is_static scope s
+  IsScopedStatement is_static scope (If e s) = IsScoped is_static scope e × IsNoDeclaration s × IsScopedStatement is_static scope s
+  IsScopedStatement is_static scope (IfElse e s t) =
+      IsScoped is_static scope e × IsNoDeclaration s × IsScopedStatement is_static scope s × IsNoDeclaration t × IsScopedStatement is_static scope t
+  IsScopedStatement is_static scope (While l named e s) = IsScoped is_static scope e × IsNoDeclaration s × IsScopedStatement is_static scope s
   IsScopedStatement is_static scope (Return e) = IsScoped is_static scope e
 
   pub AreScoped : (ℕ → Bool) → List ℕ → CheckedTrees → Type 0
@@ -161,11 +164,18 @@ abbrev mutual
 
 -- ---- static values
 
+-- no pointer is invalid at the start
+abbrev pub IsStart : CellValue → Type 0
+IsStart (Number z) = Unit {0}
+IsStart Null = Unit {0}
+IsStart Invalid = ⊥
+IsStart (At o f) = Unit {0}
+
 -- a static value stands for this cell of the object and fits it; then come those of the cells behind
 abbrev pub HoldStart : Layout → ℕ → ℕ → List CellType → List StaticValue → (List StaticValue → Type 0) → Type 0
 HoldStart cells n f [] values Rest = Rest values
 HoldStart cells n f (t ∷ types) [] Rest = ⊥
-HoldStart cells n f (t ∷ types) (s ∷ values) Rest = (s.object ≡ n) × (s.offset ≡ f) × CellFits cells t s.value × HoldStart cells n (suc f) types values Rest
+HoldStart cells n f (t ∷ types) (s ∷ values) Rest = (s.object ≡ n) × (s.offset ≡ f) × CellFits cells t s.value × IsStart s.value × HoldStart cells n (suc f) types values Rest
 
 -- those of an object, where it is static
 abbrev pub HoldObject : Bool → Layout → ℕ → List CellType → List StaticValue → (List StaticValue → Type 0) → Type 0
@@ -178,14 +188,6 @@ HoldStatics cells n [] values = values ≡ []
 HoldStatics cells n (o ∷ rest) values = HoldObject o.is_static cells n o.cells values (HoldStatics cells (suc n) rest)
 
 -- ---- programs
-
-abbrev pub is_static_object : Option ObjectInfo → Bool
-is_static_object None = false
-is_static_object (Some o) = o.is_static
-
--- whether an object is static
-abbrev pub statics_of : ProgramTree → ℕ → Bool
-statics_of p n = is_static_object (at_number p.objects n)
 
 abbrev pub objects_of : ProgramTree → ℕ → List ℕ
 objects_of p k = numbers_where (λ (o : ObjectInfo). o.function == k) 1 p.objects
@@ -206,6 +208,8 @@ pub record IsLawfulFunction (p : ProgramTree) (g : Listing) (k : ℕ) (f : Funct
   pub typed : IsTypedStatement (cells_of p) f.result f.body
   pub scoped : IsScopedStatement (statics_of p) f.parameters f.body
   pub checks : StatementHasChecks g f.body
+  -- its loops have the sets of its tree
+  pub loop_sets : HaveSets p.loops (function_loop_sets p f)
 
 abbrev pub main_result : List CellType
 main_result = Integer int_type ∷ []
@@ -247,7 +251,17 @@ pub record IsLawful (p : ProgramTree) : Type 0 where
   pub have_cells : HaveCells p.objects
   pub few_cells : cell_count p.objects ≤ 65536
   pub statics : HoldStatics (cells_of p) 1 p.objects p.static_values
+  -- what pointers may point to
+  pub sets : Sets
+  pub are_sets : ArePointsTo p sets
 
 -- one of the program's checks
 abbrev pub IsCheckOf : ProgramTree → ℕ → Type 0
 IsCheckOf p c = IsSome (at_number p.checks c)
+
+-- a loop's sets rise; what it may change are objects with cells, and its variables are objects of one integer cell
+pub record AreOfObjects (cells : Layout) (info : LoopInfo) : Type 0 where
+  pub mods_rise : Rise info.mods
+  pub vars_rise : Rise info.vars
+  pub changed : All (λ n. 0 < length (cells n)) info.mods
+  pub variables : All (λ n. is_integer (cells n) ≡ true) info.vars

@@ -3,3 +3,6 @@
 #![tactic(auto)]
 
 pub mod laws;
+mod sets;
+
+pub use sets::LoopSets;

@@ -1,5 +1,5 @@
 -- Reading one expression of a text: which is spelt, and where and by which rule reading stops.
-use Rattle.std.specs.Prelude.{◌≡◌, ℕ, Option, None, Some, List, [], ◌∷◌, drop}
+use Rattle.std.specs.Prelude.{◌≡◌, ℕ, None, Some, List, [], ◌∷◌, drop}
 use Rattle.l2_syntax.specs.declared.token.Token.{Token}
 use Rattle.l2_syntax.specs.declared.refusal.Rule.TheVariants as rule
 use Rattle.l2_syntax.specs.declared.refusal.Refusal.{Refusal}

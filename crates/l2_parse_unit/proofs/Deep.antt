@@ -1,11 +1,11 @@
 -- What is too deep by the tokens and trees is what the reader finds too deep.
-use Rattle.std.proofs.Common.{◌≡◌, ◌≤◌, ◌<◌, ℕ, suc, List, [], ◌∷◌, ◌++◌, ◌⊎◌, inl, inr, Bool, true, false, ◌&&◌, ◌||◌, leb, refl, sym, ap, ◌∙◌, subst, arith}
+use Rattle.std.proofs.Common.{◌≡◌, suc, List, [], ◌∷◌, ◌++◌, ◌⊎◌, inl, inr, Bool, true, false, ◌&&◌, ◌||◌, leb, refl, sym, ap, ◌∙◌, subst}
 use Rattle.std.proofs.lemmas.Bool.{le-leb, leb-true}
 use Rattle.l2_grammar.specs.declared.states.Sort.TheVariants.{Unit as unit}
 use Rattle.l2_grammar.specs.Trees.{Seen, Tree, begin, token, child, spell}
 use Rattle.l2_grammar.specs.Reader.{Next, Stop, To, step}
-use Rattle.l2_grammar.specs.Law.{IsUnit, Spells, Begins}
-use Rattle.l2_grammar.specs.Limits.{most, longest, opens_bracket, is_statement, statements, expression_size, exceeds, nests, deep_from, TooDeep as IsFound}
+use Rattle.l2_grammar.specs.Law.{Spells, Begins}
+use Rattle.l2_grammar.specs.Limits.{most, longest, opens_bracket, is_statement, statements, expression_size, exceeds, TooDeep as IsFound}
 use Rattle.l2_grammar.specs.Expressions.{brackets_behind}
 use Rattle.l2_grammar.proofs.Bools.{both, and}
 use Rattle.l2_grammar.proofs.Fed.{walked, walk, after, fed}
@@ -13,7 +13,7 @@ use Rattle.l2_grammar.proofs.Kept.{Kept, finish_at}
 use Rattle.l2_grammar.proofs.Reading.{begins_good}
 use Rattle.l2_grammar.proofs.Walks.{kept_walk, Arrived, arrived_before, walk_last, deep_walk}
 use Rattle.l2_parse_unit.specs.Depths.{OpenBehind, TooDeep, bracket, statement, expression}
-use Rattle.l2_parse_unit.proofs.Open.{comes_to, Opened, opened_behind}
+use Rattle.l2_parse_unit.proofs.Open.{comes_to, opened_behind}
 
 or_true : (a b : Bool) → (a || b) ≡ true → (a ≡ true) ⊎ (b ≡ true)
 or_true true b e = inl refl

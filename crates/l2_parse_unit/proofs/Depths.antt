@@ -1,10 +1,10 @@
 -- What the reader says of depths is so by the tokens and trees.
-use Rattle.std.proofs.Common.{◌≡◌, List, [], ◌∷◌, ◌++◌, refl, sym, ap, ◌∙◌, subst, append_assoc, append-nil}
+use Rattle.std.proofs.Common.{◌≡◌, List, [], ◌∷◌, ◌++◌, sym, ap, ◌∙◌, subst, append_assoc, append-nil}
 use Rattle.std.proofs.lemmas.List.{append_cancel_right}
 use Rattle.l2_grammar.specs.Trees.{Seen, Tree}
 use Rattle.l2_grammar.specs.Law.{Spells, Begins, StopsBefore}
 use Rattle.l2_grammar.specs.Limits as reader
-use Rattle.l2_parse_unit.specs.Depths.{TooDeep, Shallow, ShallowAt, DeepAt, NestsBefore}
+use Rattle.l2_parse_unit.specs.Depths.{Shallow, ShallowAt, DeepAt, NestsBefore}
 use Rattle.l2_parse_unit.proofs.Deep.{found, too_deep}
 
 -- some unit begins with the first of the tokens with which one begins

@@ -1,16 +1,16 @@
 -- No text is refused in two ways.
-use Rattle.std.proofs.Common.{◌≡◌, ℕ, suc, List, [], ◌∷◌, ◌++◌, map, length, Some, None, refl, sym, ap, ◌∙◌, subst, append_assoc, append-nil, length-append, arith}
+use Rattle.std.proofs.Common.{◌≡◌, List, [], ◌∷◌, ◌++◌, length, refl, sym, ap, ◌∙◌, subst, append_assoc, append-nil, length-append, arith}
 use Rattle.std.proofs.lemmas.List.{length-map}
 use Rattle.l2_syntax.specs.declared.token.Token.{Token}
 use Rattle.l2_syntax.specs.declared.refusal.Rule.{Rule}
 use Rattle.l2_syntax.specs.declared.refusal.Rule.TheVariants as rule
 use Rattle.l2_syntax.specs.declared.refusal.Refusal.{Refusal}
-use Rattle.l2_grammar.specs.Trees.{Seen, Tree}
+use Rattle.l2_grammar.specs.Trees.{Seen}
 use Rattle.l2_grammar.specs.Law.{Spells, Begins, StopsBefore, NoFurther}
 use Rattle.l2_lex.specs.Lexing.{Lexed}
 use Rattle.l2_tree.specs.Spelling.{plain}
 use Rattle.l2_parse_unit.specs.Depths.{TooDeep, Shallow, ShallowAt, DeepAt, NestsBefore}
-use Rattle.l2_parse_unit.specs.Reading.{kept, Stops, IsRefused, nested, stopped, lexical, ended, UniqueRefusalLaw}
+use Rattle.l2_parse_unit.specs.Reading.{kept, nested, stopped, lexical, ended, UniqueRefusalLaw}
 
 -- two places among the same tokens
 data Order (us rest vs others : List Seen) : Type 0 where

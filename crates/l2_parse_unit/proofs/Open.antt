@@ -1,16 +1,16 @@
 -- The reader comes to the constructs that are open behind a token of a unit's tree.
-use Rattle.std.proofs.Common.{◌≡◌, ◌≤◌, ◌<◌, List, [], ◌∷◌, ◌++◌, ◌⊎◌, inl, inr, Bool, true, false, refl, sym, ap, ◌∙◌, subst, append-nil}
+use Rattle.std.proofs.Common.{◌≡◌, List, [], ◌∷◌, ◌++◌, ◌⊎◌, inl, inr, Bool, true, false, refl, sym, ap, ◌∙◌, subst}
 use Rattle.l2_grammar.specs.declared.states.Sort.{Sort}
 use Rattle.l2_grammar.specs.declared.states.Sort.TheVariants.{Unit as unit}
 use Rattle.l2_grammar.specs.declared.states.State.TheVariants.{Fresh as fresh}
-use Rattle.l2_grammar.specs.Nesting.{opens, outcome, stands, is_unit}
+use Rattle.l2_grammar.specs.Nesting.{outcome, stands, is_unit}
 use Rattle.l2_grammar.specs.Trees.{Seen, Tree, begin, token, child, spell, sort, state, Fits}
-use Rattle.l2_grammar.specs.Reader.{Next, Stop, To, takes, begins, step}
-use Rattle.l2_grammar.specs.Law.{IsUnit, Spells, Begins}
+use Rattle.l2_grammar.specs.Reader.{To, takes, begins}
+use Rattle.l2_grammar.specs.Law.{Begins}
 use Rattle.l2_grammar.proofs.Bools.{no}
 use Rattle.l2_grammar.proofs.Nests.{no_unit, first_child}
-use Rattle.l2_grammar.proofs.Fed.{walked, walk, after, taken, opened, Led, led, settle, fed}
-use Rattle.l2_grammar.proofs.Kept.{before, StandsIn, Good, moved}
+use Rattle.l2_grammar.proofs.Fed.{walk, after, taken, opened, Led, led, settle, fed}
+use Rattle.l2_grammar.proofs.Kept.{StandsIn, Good, moved}
 use Rattle.l2_parse_unit.specs.Depths.{OpenIn, tokens_of, OpenBehind}
 
 unit_fresh : (s : Sort) → is_unit s ≡ true → stands s fresh ≡ true

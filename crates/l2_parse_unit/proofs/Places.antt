@@ -1,5 +1,5 @@
 -- What an index says of where tokens are refused.
-use Rattle.std.proofs.Common.{◌≡◌, refl, ap, sym, ◌∙◌, subst, ℕ, ◌+◌, ◌≤◌, ◌<◌, List, [], ◌∷◌, ◌++◌, map, drop, take, length, slice_index_or, None, Some}
+use Rattle.std.proofs.Common.{◌≡◌, ap, sym, ◌∙◌, subst, ℕ, ◌+◌, ◌≤◌, ◌<◌, List, [], ◌∷◌, ◌++◌, map, drop, take, length, slice_index_or, None, Some}
 use Rattle.std.proofs.lemmas.List.{at_drop_more, drop-map, take-append-drop, length-map, drop_all}
 use Rattle.l2_syntax.specs.declared.token.Token.{Token}
 use Rattle.l2_syntax.specs.declared.refusal.Rule.TheVariants as rule
@@ -7,11 +7,11 @@ use Rattle.l2_syntax.specs.declared.refusal.Refusal.{Refusal}
 use Rattle.l2_grammar.specs.Trees.{Seen}
 use Rattle.l2_grammar.specs.Law.{StopsBefore, Begins}
 use Rattle.l2_grammar.specs.Limits as reader
-use Rattle.l2_parse_unit.specs.Depths.{Shallow, ShallowAt, NestsBefore}
+use Rattle.l2_parse_unit.specs.Depths.{NestsBefore}
 use Rattle.l2_reader.specs.Parts.{seen}
 use Rattle.l2_lex.specs.Lexing.{Lexed}
 use Rattle.l2_tree.specs.Spelling.{plain}
-use Rattle.l2_parse_unit.specs.Reading.{kept, Stops, IsRefused, nested, stopped, lexical, ended, last_place, start}
+use Rattle.l2_parse_unit.specs.Reading.{kept, IsRefused, nested, stopped, lexical, ended, last_place, start}
 use Rattle.l2_parse_unit.proofs.Refused.{nil_right}
 use Rattle.l2_parse_unit.proofs.Depths as depths
 use Rattle.l2_parse_unit.proofs.Depths.{found_stops, stops_so}

@@ -4,5 +4,5 @@
 mod request;
 mod words;
 
-pub use request::{Request, WordsError, text, values_file};
+pub use request::{Request, View, WordsError, text, values_file};
 pub use words::command;

@@ -8,11 +8,22 @@ use l2_limits::{FILE_LIMIT, TEXT_LIMIT};
 use std::alloc::{AllocError, AllocFailed};
 use thiserror::Error;
 
+/// What of a program is shown.
+#[derive(Clone, Copy, Debug, PartialEq, Eq)]
+pub enum View {
+    /// Its code.
+    Goto,
+    /// Its loops, with what each of them changes.
+    Loops,
+}
+
 /// What a line of words asks for.
 #[derive(Clone, Copy, Debug)]
 pub enum Request<'a> {
     /// `replay FILE VALUES`
     Replay { file: &'a str, values: &'a str },
+    /// `show goto FILE`, `show loops FILE`
+    Show { view: View, file: &'a str },
 }
 
 /// Why words ask for nothing.

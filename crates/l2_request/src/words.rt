@@ -1,8 +1,8 @@
 ghost use Rattle.std.specs.Prelude.{◌≡◌, ◌++◌, Some, None, IfOk, IsErrOf};
 ghost use Rattle.l2_request.specs.Words.{texts, shown, may_be_operand, operands};
-ghost use Rattle.l2_request.specs.Requests.{asked, command};
+ghost use Rattle.l2_request.specs.Requests.{asked, view_of, command};
 
-use crate::request::{Request, WordsError};
+use crate::request::{Request, View, WordsError};
 use std::alloc::{AllocError, Global};
 
 /// Whether a word may be an operand before `--`: it doesn't begin with `-`, or is `-` alone.
@@ -46,6 +46,19 @@ fn operands(alloc: Global, words: &[String]) -> Result<Vec<&str>, WordsError>
     Ok(all)
 }
 
+/// The view of this name.
+fn view_of(word: &str) -> Option<View>
+    ensures { result ≡ view_of word.now }
+{
+    if word == "goto" {
+        Some(View::Goto)
+    } else if word == "loops" {
+        Some(View::Loops)
+    } else {
+        None
+    }
+}
+
 /// What the words ask for. An operand that begins with `-`, but `-` alone, stands behind `--`.
 pub fn command(alloc: Global, words: &[String]) -> Result<Request<'_>, WordsError>
     ensures ok { IfOk result (λ r. command (texts words.now) ≡ Some (asked r)) }
@@ -57,6 +70,10 @@ pub fn command(alloc: Global, words: &[String]) -> Result<Request<'_>, WordsErro
     let operands = operands(alloc, rest)?;
     match operands.as_slice() {
         [file, values] if first.as_str() == "replay" => Ok(Request::Replay { file, values }),
+        [what, file] if first.as_str() == "show" => match view_of(what) {
+            Some(view) => Ok(Request::Show { view, file }),
+            None => Err(WordsError::Usage),
+        },
         _ => Err(WordsError::Usage),
     }
 }

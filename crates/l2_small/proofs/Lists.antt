@@ -9,7 +9,6 @@ use Rattle.std.specs.declared.alloc.Global.{Global}
 use Rattle.l2_tree.specs.declared.expression.Expr as expr
 use Rattle.l2_tree.specs.declared.expression.Expr.{Expr}
 use Rattle.l2_tree.specs.declared.expression.Specifier.{Specifier}
-use Rattle.l2_tree.specs.declared.expression.Specifiers.{Specifiers}
 use Rattle.l2_tree.specs.declared.expression.Pointer.{Pointer}
 use Rattle.l2_tree.specs.declared.expression.Suffix.{Suffix}
 use Rattle.l2_tree.specs.declared.expression.Declarator as declarator
@@ -20,7 +19,7 @@ use Rattle.l2_tree.specs.declared.statement.Stmt as stmt
 use Rattle.l2_tree.specs.declared.statement.Stmt.{Stmt}
 use Rattle.l2_tree.specs.declared.statement.Branch.{Branch}
 use Rattle.l2_tree.specs.Trees.{ExprTree, ExprTrees, no_exprs, and_expr, SpecifierTree, SpecifierTrees, first_specifier, and_specifier, DeclaratorTree, Declarator, CoreTree, Absent, Named, Group, SuffixTree, SuffixTrees, no_suffixes, and_suffix, DeclaredTree, DeclaredTrees, no_declarators, and_declarator, Declaration, no_stmts, BranchTree, BranchTrees, first_branch, and_branch}
-use Rattle.l2_tree.specs.Units.{expr_tree, exprs_onto, specifier_tree, specifiers_onto, specifiers_tree, suffix_tree, suffixes_onto, declared_tree, declarators_onto, declarator_tree, initialiser_tree, stmt_tree, stmts_onto, branch_tree, branches_onto, branches_tree}
+use Rattle.l2_tree.specs.Units.{expr_tree, exprs_onto, specifier_tree, specifiers_onto, suffix_tree, suffixes_onto, declared_tree, declarators_onto, declarator_tree, initialiser_tree, stmt_tree, stmts_onto, branch_tree, branches_onto, branches_tree}
 use Rattle.l2_tree.proofs.Expressions.{expr_tree-Call}
 use Rattle.l2_tree.proofs.Statements.{stmt_tree-Block, stmt_tree-If, stmt_tree-IfElse}
 use Rattle.l2_tree.proofs.Declarations.{core_tree-Group, declared_tree-Plain, declared_tree-Initialised}

@@ -3,6 +3,7 @@
 use Rattle.std.specs.Prelude.{Bool, true, false, ◌&&◌, if◌then◌else◌, List, [], ◌∷◌, Option, Some, None, option_map}
 use Rattle.l2_syntax.specs.declared.place.Place.{Place}
 use Rattle.l2_syntax.specs.declared.token.Name.{Name as NameText}
+use Rattle.l2_syntax.specs.declared.token.Token.{Token}
 use Rattle.l2_syntax.specs.declared.token.Scalar.{Scalar}
 use Rattle.l2_syntax.specs.declared.token.Scalar.TheVariants as scalar
 use Rattle.l2_runs.specs.declared.operators.UnaryOperator as to_unary
@@ -181,21 +182,29 @@ abbrev pub main_place : List NameText → DeclaratorTree → Option Place
 main_place names (Declarator [] (Named n p) xs) = if is_main names n && takes_nothing xs then Some p else None
 main_place names d = None
 
-abbrev pub unit_with : List NameText → Place → SmallStmtTrees → SmallUnitTree
-unit_with names p items = record { main = p; items = items; names = names }
+-- where the name `main` stands, and the items of its body
+pub record MainTree : Type 0 where
+  pub main : Place
+  pub items : SmallStmtTrees
+
+abbrev pub main_tree : Place → SmallStmtTrees → MainTree
+main_tree p items = record { main = p; items = items }
 
 -- `main ( void ) { items }`
-abbrev pub main_with : List NameText → DeclaratorTree → StmtTrees → Option SmallUnitTree
-main_with names d items = and_then (main_place names d) (λ p. option_map (unit_with names p) (small_stmts names items))
+abbrev pub main_with : List NameText → DeclaratorTree → StmtTrees → Option MainTree
+main_with names d items = and_then (main_place names d) (λ p. option_map (main_tree p) (small_stmts names items))
 
 -- `int main ( void ) { items }`
-abbrev pub small_external : List NameText → ExternalTree → Option SmallUnitTree
+abbrev pub small_external : List NameText → ExternalTree → Option MainTree
 small_external names (Function xs d p items) = if is_int (word_alone xs) then main_with names d items else None
 small_external names x = None
 
-abbrev pub small_externals : List NameText → List ExternalTree → Option SmallUnitTree
+abbrev pub small_externals : List NameText → List ExternalTree → Option MainTree
 small_externals names (x ∷ []) = small_external names x
 small_externals names xs = None
 
+abbrev pub unit_with : List NameText → List Token → MainTree → SmallUnitTree
+unit_with names constants m = record { main = m.main; items = m.items; names = names; constants = constants }
+
 abbrev pub small_of : UnitTree → Option SmallUnitTree
-small_of u = small_externals u.names u.externals
+small_of u = option_map (unit_with u.names u.constants) (small_externals u.names u.externals)

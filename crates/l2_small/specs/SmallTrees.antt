@@ -2,6 +2,7 @@
 use Rattle.std.specs.Prelude.{ℕ, ℤ, List, [], ◌∷◌}
 use Rattle.l2_syntax.specs.declared.place.Place.{Place}
 use Rattle.l2_syntax.specs.declared.token.Name.{Name as NameText}
+use Rattle.l2_syntax.specs.declared.token.Token.{Token}
 use Rattle.l2_small.specs.declared.tree.SmallUnit as unit
 use Rattle.l2_runs.specs.declared.operators.UnaryOperator.{UnaryOperator}
 use Rattle.l2_runs.specs.declared.operators.BinaryOperator.{BinaryOperator}
@@ -63,11 +64,12 @@ abbrev pub small_stmts_onto : SmallStmtTrees → List SmallStmt → SmallStmtTre
 small_stmts_onto trees [] = trees
 small_stmts_onto trees (s ∷ rest) = small_stmts_onto (also trees (small_stmt_tree s)) rest
 
--- a whole text: where the name `main` stands, the items of its body, and the names that words are numbered by
+-- a whole text: where the name `main` stands, the items of its body, the names that words are numbered by, and the text's constants
 pub record SmallUnitTree : Type 0 where
   pub main : Place
   pub items : SmallStmtTrees
   pub names : List NameText
+  pub constants : List Token
 
 abbrev pub small_unit_tree : unit.SmallUnit → SmallUnitTree
-small_unit_tree u = record { main = u.main; items = small_stmts_onto none u.items.items; names = u.names }
+small_unit_tree u = record { main = u.main; items = small_stmts_onto none u.items.items; names = u.names; constants = u.constants }

@@ -1,6 +1,6 @@
 use l2_bits::List;
 use l2_runs::{BinaryOperator, UnaryOperator};
-use l2_syntax::{Name, Place};
+use l2_syntax::{Name, Place, Token};
 
 /// An expression as it is spelt, parentheses and all. Words carry their number and their place.
 #[derive(Drop)]
@@ -37,10 +37,12 @@ pub enum SmallStmt {
     Return(SmallExpr),
 }
 
-/// A text as it is spelt: the place of the name `main`, its body's items, and the names that words are numbered by.
+/// A text as it is spelt: the place of the name `main`, its body's items, the names that words are numbered by, and the
+/// text's constants.
 #[derive(Drop)]
 pub struct SmallUnit {
     pub main: Place,
     pub items: Vec<SmallStmt>,
     pub names: List<Name>,
+    pub constants: List<Token>,
 }

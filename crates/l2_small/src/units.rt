@@ -3,7 +3,7 @@ ghost use Rattle.std.specs.Prelude.{◌≡◌, Some, None, map, IfOk, IsErrOf};
 ghost use Rattle.l2_tree.specs.Trees.{no_parameters, and_parameter, no_suffixes, and_suffix, no_stmts};
 ghost use Rattle.l2_tree.specs.Units.{parameter_tree, parameters_onto, suffix_tree, suffixes_onto, declarator_tree, stmts_onto, external_tree, unit_tree};
 ghost use Rattle.l2_small.specs.SmallTrees.{none, small_stmts_onto, small_unit_tree};
-ghost use Rattle.l2_small.specs.SmallForm.{is_nothing, takes_nothing, main_place, unit_with, main_with, small_external, small_externals, small_of};
+ghost use Rattle.l2_small.specs.SmallForm.{is_nothing, takes_nothing, main_place, main_tree, main_with, small_external, small_externals, small_of};
 
 use crate::declarations::{is_int, is_void, word_alone};
 use crate::error::SmallError;
@@ -92,7 +92,7 @@ fn main_body(
     d: &Declarator,
     all: &[Stmt],
 ) -> Result<MainBody, SmallError>
-    ensures ok { IfOk result (λ r. main_with names.now (declarator_tree d.now) (stmts_onto no_stmts all.now) ≡ Some (unit_with names.now r.main (small_stmts_onto none r.items.items))) }
+    ensures ok { IfOk result (λ r. main_with names.now (declarator_tree d.now) (stmts_onto no_stmts all.now) ≡ Some (main_tree r.main (small_stmts_onto none r.items.items))) }
     ensures not_small { IsErrOf result SmallError.NotSmall → main_with names.now (declarator_tree d.now) (stmts_onto no_stmts all.now) ≡ None }
 {
     match main_place(names, d) {
@@ -107,7 +107,7 @@ fn main_body(
 /// `int main(void) { .. }`.
 #[tactic(auto, using(crate::proofs::Steps::steps))]
 fn external_body(alloc: Global, names: &[Name], x: &External) -> Result<MainBody, SmallError>
-    ensures ok { IfOk result (λ r. small_external names.now (external_tree x.now) ≡ Some (unit_with names.now r.main (small_stmts_onto none r.items.items))) }
+    ensures ok { IfOk result (λ r. small_external names.now (external_tree x.now) ≡ Some (main_tree r.main (small_stmts_onto none r.items.items))) }
     ensures not_small { IsErrOf result SmallError.NotSmall → small_external names.now (external_tree x.now) ≡ None }
 {
     match x {
@@ -127,7 +127,7 @@ fn external_body(alloc: Global, names: &[Name], x: &External) -> Result<MainBody
 /// The body of the one external of a text.
 #[tactic(auto, using(crate::proofs::Mains::externals))]
 fn only_body(alloc: Global, names: &[Name], all: &[External]) -> Result<MainBody, SmallError>
-    ensures ok { IfOk result (λ r. small_externals names.now (map external_tree all.now) ≡ Some (unit_with names.now r.main (small_stmts_onto none r.items.items))) }
+    ensures ok { IfOk result (λ r. small_externals names.now (map external_tree all.now) ≡ Some (main_tree r.main (small_stmts_onto none r.items.items))) }
     ensures not_small { IsErrOf result SmallError.NotSmall → small_externals names.now (map external_tree all.now) ≡ None }
 {
     match all {
@@ -144,8 +144,13 @@ pub fn small(alloc: Global, unit: Unit) -> Result<SmallUnit, SmallError>
     let Unit {
         externals,
         names,
-        ..
+        constants,
     } = unit;
     let MainBody { main, items } = only_body(alloc, names.as_slice(), externals.as_slice())?;
-    Ok(SmallUnit { main, items, names })
+    Ok(SmallUnit {
+        main,
+        items,
+        names,
+        constants,
+    })
 }

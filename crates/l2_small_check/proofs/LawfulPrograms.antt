@@ -24,15 +24,21 @@ use Rattle.l2_program.specs.Types.{type_of, given, is_computing, is_arithmetic}
 use Rattle.l2_program.specs.Names.{checks_of, unless_none, declared_in, all_declared_in, loops_in, all_loops_in, checks_in, all_checks_in}
 use Rattle.l2_program.specs.declared.program.Program.{Program}
 use Rattle.l2_program.specs.Programs.{ProgramTree, FunctionTree, program_tree}
-use Rattle.l2_meaning.specs.Execution.{known_cells, cells_of}
-use Rattle.l2_meaning.specs.Lawful.{IsIn, IsScalar, IsTyped, IsTypedStatement, AreTyped, Listing, IsOfKind, HasChecks, StatementHasChecks, HaveChecks, IsScoped, IsScopedStatement, AreScoped, behind, is_static_object, statics_of, main_result, IsSome, IsLawfulFunction, IsLawful, HoldObject, HoldStatics, HaveCells, cell_count}
+use Rattle.l2_meaning.specs.Execution.{known_cells, cells_of, main_among}
+use Rattle.l2_meaning.specs.Scopes.{behind, is_static_object, statics_of}
+use Rattle.l2_meaning.specs.Pointing.{has_pointer, first_member, StatementIsTakenIn, ArePointsTo}
+use Rattle.l2_meaning.specs.Changes.{function_loop_sets, functions_loop_sets, with_loop_sets}
+use Rattle.l2_meaning.proofs.Loops.{loop_numbers}
+use Rattle.l2_meaning.proofs.Nowhere.{nowhere, statement_nowhere}
+use Rattle.l2_meaning.specs.Lawful.{IsIn, IsInteger, IsTyped, IsTypedStatement, AreTyped, Listing, IsOfKind, HasChecks, StatementHasChecks, HaveChecks, IsScoped, IsNoDeclaration, IsScopedStatement, AreScoped, main_result, IsSome, IsLawfulFunction, IsLawful, HoldObject, HoldStatics, HaveCells, cell_count}
 use Rattle.l2_small.specs.SmallForm.{and_then}
 use Rattle.l2_small.specs.SmallTrees as small
 use Rattle.l2_small.specs.SmallTrees.{SmallExprTree, SmallStmtTree, SmallStmtTrees, SmallUnitTree}
 use Rattle.l2_small_check.specs.declared.entry.Entry.{Entry}
-use Rattle.l2_small_check.specs.Elaboration.{Scope, Found, Elaborated, lookup, int_cell, variable, read_of, assignment, assertion, loop, stays, made, within, typed, declare, is_declared, most_cells, object_number, loop_number, check_number, with_loop, with_check, chain, block, item, items, nothing_found, main_name, main_function, program_with, program_of}
-use Rattle.l2_small_check.specs.Spelling.{found_in}
-use Rattle.l2_small_check.proofs.Spelt.{at_last, Grows, grows_not, grows_trans, few_objects}
+use Rattle.l2_small_check.specs.Elaboration.{Scope, Found, Elaborated, lookup, int_cell, variable, read_of, assignment, assertion, loop, stays, made, within, typed, declare, is_declared, most_cells, object_number, loop_number, check_number, with_loop, with_check, chain, block, is_declaration, body_of, item, items, nothing_found, main_name, main_function, program_with, program_of}
+use Rattle.l2_small_check.specs.Spelling.{bare, plain_items, spelt_item, spelt_bodies}
+use Rattle.l2_small_check.proofs.Spelt.{at_last, Grows, grows_not, grows_trans, few_objects, whole_says}
+use Rattle.l2_small_check.proofs.Taken.{AreMains, is_mains_loop, taken_numbers, taken_function, sets_taken, bare_taken}
 
 -- ---- numbers of the items of lists
 
@@ -46,9 +52,6 @@ numbers_more f n (y ∷ xs) x e = go (f y) (numbers_more f (suc n) xs x e) where
 
 abbrev is_mains : ObjectInfo → Bool
 is_mains o = o.function == 1
-
-abbrev is_mains_loop : LoopInfo → Bool
-is_mains_loop l = l.function == 1
 
 abbrev is_any : CheckInfo → Bool
 is_any c = true
@@ -82,13 +85,9 @@ ints_more : (os : List ObjectInfo) (n : ℕ) (p : Place) → AreInts os → AreI
 ints_more [] n p h = (refl, refl, refl, tt)
 ints_more (o ∷ os) n p (a, b, c, r) = (a, b, c, ints_more os n p r)
 
-abbrev AreMains : List LoopInfo → Type 0
-AreMains [] = Unit {0}
-AreMains (l ∷ rest) = (l.function ≡ 1) × AreMains rest
-
-mains_more : (ls : List LoopInfo) (l : LoopInfo) → l.function ≡ 1 → AreMains ls → AreMains (ls ++ l ∷ [])
-mains_more [] l e h = (e, tt)
-mains_more (x ∷ ls) l e (a, r) = (a, mains_more ls l e r)
+mains_more : (ls : List LoopInfo) (l : LoopInfo) → l.function ≡ 1 → bare l ≡ l → AreMains ls → AreMains (ls ++ l ∷ [])
+mains_more [] l e f h = (e, f, tt)
+mains_more (x ∷ ls) l e f (a, b, r) = (a, b, mains_more ls l e f r)
 
 known_int : (os : List ObjectInfo) (i : ℕ) → AreInts os → IsSome (slice_get os i) → known_cells (slice_get os i) ≡ int_cell ∷ []
 known_int [] i h k = absurd k
@@ -104,11 +103,6 @@ known_main : (os : List ObjectInfo) (i : ℕ) (o : ObjectInfo) → AreInts os �
 known_main [] i o h e = cc
 known_main (x ∷ os) zero o (a, b, c, r) e = let q : x ≡ o = cc in ap (λ y. y.function) (sym q) ∙ c
 known_main (x ∷ os) (suc i) o (a, b, c, r) e = known_main os i o r e
-
-known_mains_loop : (ls : List LoopInfo) (i : ℕ) (l : LoopInfo) → AreMains ls → slice_get ls i ≡ Some l → l.function ≡ 1
-known_mains_loop [] i l h e = cc
-known_mains_loop (x ∷ ls) zero l (a, r) e = let q : x ≡ l = cc in ap (λ y. y.function) (sym q) ∙ a
-known_mains_loop (x ∷ ls) (suc i) l (a, r) e = known_mains_loop ls i l r e
 
 given_int : (b : Bool) → given b int_type ≡ int_type
 given_int true = refl
@@ -172,6 +166,35 @@ behind_end scope (s ∷ ts) t = behind_end (behind scope s) ts t
 
 as_adds : (a b : Found) (d l k e m n : List ℕ) → d ≡ e → l ≡ m → k ≡ n → Adds a b d l k → Adds a b e m n
 as_adds a b d l k e m n p q r h = record { objects = h.objects ∙ ap (λ x. numbers_where is_mains 1 a.objects ++ x) p; loops = h.loops ∙ ap (λ x. numbers_where is_mains_loop 1 a.loops ++ x) q; checks = h.checks ∙ ap (λ x. numbers_where is_any 1 a.checks ++ x) r }
+
+-- ---- what declares nothing
+
+abbrev NoDeclaration : Option (Elaborated CheckedTree) → Type 0
+NoDeclaration None = Unit {0}
+NoDeclaration (Some r) = IsNoDeclaration r.tree
+
+none_in : {A : Type 0} (f : A → Elaborated CheckedTree) → ((a : A) → IsNoDeclaration (f a).tree) → (x : Option A) → NoDeclaration (option_map f x)
+none_in f h None = tt
+none_in f h (Some a) = h a
+
+none_behind : {A : Type 0} (f : A → Option (Elaborated CheckedTree)) → ((a : A) → NoDeclaration (f a)) → (x : Option A) → NoDeclaration (and_then x f)
+none_behind f h None = tt
+none_behind f h (Some a) = h a
+
+no_declaration : (scope : Scope) (found : Found) (s : SmallStmtTree) → is_declaration s ≡ false → NoDeclaration (item scope found s)
+no_declaration scope found (small.Block all) e = none_in (made block) (λ r. tt) (within scope (items scope found all))
+no_declaration scope found (small.Declare n q) e = cc
+no_declaration scope found (small.Initialise n q x) e = cc
+no_declaration scope found (small.Assign n q x) e = none_behind _ (λ o. none_in (λ t. stays scope found (assignment o t)) (λ t. tt) (typed scope x)) (lookup scope n)
+no_declaration scope found (small.If x s) e = none_behind _ (λ t. none_in (made (checked.If t)) (λ r. tt) (body_of s (within scope (item scope found s)))) (typed scope x)
+no_declaration scope found (small.IfElse x s z) e =
+    none_behind _ (λ t. none_behind _ (λ (r : Elaborated CheckedTree). none_in (made (checked.IfElse t r.tree)) (λ q. tt) (body_of z (within scope (item scope r.found z)))) (body_of s (within scope (item scope found s)))) (typed scope x)
+no_declaration scope found (small.While q x s) e = none_behind _ (λ t. none_in (made (loop (loop_number found) t)) (λ r. tt) (body_of s (within scope (item scope (with_loop found q) s)))) (typed scope x)
+no_declaration scope found (small.Assert q x) e = none_in (λ t. stays scope (with_check found q) (assertion (check_number found) t)) (λ t. tt) (typed scope x)
+no_declaration scope found (small.Return x) e = none_in (λ t. stays scope found (checked.Return t)) (λ t. tt) (typed scope x)
+
+abbrev found_of_program : ProgramTree → Found
+found_of_program p = record { objects = p.objects; loops = p.loops; checks = p.checks }
 
 module _ (p : ProgramTree) (ints : AreInts p.objects) where
   abbrev listing : Listing
@@ -266,7 +289,7 @@ module _ (p : ProgramTree) (ints : AreInts p.objects) where
     adds : Adds found later d l k
     more_ints : AreInts found.objects → AreInts later.objects
     more_mains : AreMains found.loops → AreMains later.loops
-    good : Grows later (found_in p) → Known scope → Good
+    good : Grows later (found_of_program p) → Known scope → Good
 
   abbrev Good : Scope → CheckedTree → Scope → Type 0
   Good scope t later =
@@ -360,11 +383,34 @@ module _ (p : ProgramTree) (ints : AreInts p.objects) where
     good = λ g k. let w = v k in (k, (cells_known o (l k).0, w.typed, w.int), w.checks, (inr (l k).1, w.scoped), refl);
   }
 
-  scalar : (scope : Scope) (t : TypedTree) → IsIntTree scope t → IsScalar (type_of t)
-  scalar scope t w = subst (λ types. IsScalar types) (sym w.int) tt
+  scalar : (scope : Scope) (t : TypedTree) → IsIntTree scope t → IsInteger (type_of t)
+  scalar scope t w = subst (λ types. IsInteger types) (sym w.int) tt
 
-  if_fits : (scope : Scope) (found : Found) (x : Option TypedTree) (y : Option (Elaborated CheckedTree)) → ValueFits scope x → NoChecks x → FitsItem scope found y →
-      FitsItem scope found (and_then x (λ t. option_map (made (checked.If t)) (within scope y)))
+  -- what a loop or a branch does declares nothing around it
+  abbrev FitsBody : Scope → Found → Option (Elaborated CheckedTree) → Type 0
+  FitsBody scope found None = Unit {0}
+  FitsBody scope found (Some r) = Fine scope found r.found (declared_in r.tree) (loops_in r.tree) (checks_in r.tree) (
+      Known r.scope × IsTypedStatement (cells_of p) main_result r.tree × StatementHasChecks listing r.tree × IsScopedStatement (statics_of p) (objects_in scope) r.tree × IsNoDeclaration r.tree ×
+      (objects_in scope ≡ objects_in r.scope))
+
+  within_fits : (scope : Scope) (found : Found) (x : Option (Elaborated CheckedTree)) → FitsItem scope found x → NoDeclaration x → FitsBody scope found (within scope x)
+  within_fits scope found None h d = tt
+  within_fits scope found (Some r) h d = record {
+    grows = h.grows;
+    adds = h.adds;
+    more_ints = h.more_ints;
+    more_mains = h.more_mains;
+    good = λ g k. let (kn, ty, ch, sc, be) = h.good g k in (k, ty, ch, sc, d, refl);
+  }
+
+  body_fits : (s : SmallStmtTree) (scope : Scope) (found : Found) → FitsItem scope found (item scope found s) → FitsBody scope found (body_of s (within scope (item scope found s)))
+  body_fits s scope found h = go (is_declaration s) refl where
+    go : (b : Bool) → is_declaration s ≡ b → FitsBody scope found (if b then None else within scope (item scope found s))
+    go true e = tt
+    go false e = within_fits scope found (item scope found s) h (no_declaration scope found s e)
+
+  if_fits : (scope : Scope) (found : Found) (x : Option TypedTree) (y : Option (Elaborated CheckedTree)) → ValueFits scope x → NoChecks x → FitsBody scope found y →
+      FitsItem scope found (and_then x (λ t. option_map (made (checked.If t)) y))
   if_fits scope found None y v none h = tt
   if_fits scope found (Some t) None v none h = tt
   if_fits scope found (Some t) (Some r) v none h = record {
@@ -372,16 +418,16 @@ module _ (p : ProgramTree) (ints : AreInts p.objects) where
     adds = subst (λ ks. Adds found r.found (declared_in r.tree) (loops_in r.tree) (ks ++ checks_in r.tree)) (sym none) h.adds;
     more_ints = h.more_ints;
     more_mains = h.more_mains;
-    good = λ g k. let (kn, ty, ch, sc, be) = h.good g k in let w = v k in (k, (w.typed, scalar scope t w, ty), (w.checks, ch), (w.scoped, sc), refl);
+    good = λ g k. let (kn, ty, ch, sc, nd, be) = h.good g k in let w = v k in (kn, (w.typed, scalar scope t w, ty), (w.checks, ch), (w.scoped, nd, sc), be);
   }
 
-  if_else_fits : (z : SmallStmtTree) (scope : Scope) (found : Found) (x : Option TypedTree) (y : Option (Elaborated CheckedTree)) → ValueFits scope x → NoChecks x → FitsItem scope found y →
+  if_else_fits : (z : SmallStmtTree) (scope : Scope) (found : Found) (x : Option TypedTree) (y : Option (Elaborated CheckedTree)) → ValueFits scope x → NoChecks x → FitsBody scope found y →
       ((later : Found) → FitsItem scope later (item scope later z)) →
-      FitsItem scope found (and_then x (λ t. and_then (within scope y) (λ r. option_map (made (checked.IfElse t r.tree)) (within scope (item scope r.found z)))))
+      FitsItem scope found (and_then x (λ t. and_then y (λ r. option_map (made (checked.IfElse t r.tree)) (body_of z (within scope (item scope r.found z))))))
   if_else_fits z scope found None y v none h next = tt
   if_else_fits z scope found (Some t) None v none h next = tt
-  if_else_fits z scope found (Some t) (Some r) v none h next = go (item scope r.found z) (next r.found) where
-    go : (w : Option (Elaborated CheckedTree)) → FitsItem scope r.found w → FitsItem scope found (option_map (made (checked.IfElse t r.tree)) (within scope w))
+  if_else_fits z scope found (Some t) (Some r) v none h next = go (body_of z (within scope (item scope r.found z))) (body_fits z scope r.found (next r.found)) where
+    go : (w : Option (Elaborated CheckedTree)) → FitsBody scope r.found w → FitsItem scope found (option_map (made (checked.IfElse t r.tree)) w)
     go None j = tt
     go (Some q) j = record {
       grows = grows_trans found r.found q.found h.grows j.grows;
@@ -390,14 +436,14 @@ module _ (p : ProgramTree) (ints : AreInts p.objects) where
       more_ints = λ a. j.more_ints (h.more_ints a);
       more_mains = λ a. j.more_mains (h.more_mains a);
       good = λ g k.
-          let (kn, ty, ch, sc, be) = h.good (grows_trans r.found q.found (found_in p) j.grows g) k in
-          let (kn2, ty2, ch2, sc2, be2) = j.good g k in
+          let (kn, ty, ch, sc, nd, be) = h.good (grows_trans r.found q.found (found_of_program p) j.grows g) k in
+          let (kn2, ty2, ch2, sc2, nd2, be2) = j.good g k in
           let w = v k in
-          (k, (w.typed, scalar scope t w, ty, ty2), (w.checks, ch, ch2), (w.scoped, sc, sc2), refl);
+          (kn2, (w.typed, scalar scope t w, ty, ty2), (w.checks, ch, ch2), (w.scoped, nd, sc, nd2, sc2), be2);
     }
 
-  while_fits : (q : Place) (scope : Scope) (found : Found) (x : Option TypedTree) (y : Option (Elaborated CheckedTree)) → ValueFits scope x → NoChecks x → FitsItem scope (with_loop found q) y →
-      FitsItem scope found (and_then x (λ t. option_map (made (loop (loop_number found) t)) (within scope y)))
+  while_fits : (q : Place) (scope : Scope) (found : Found) (x : Option TypedTree) (y : Option (Elaborated CheckedTree)) → ValueFits scope x → NoChecks x → FitsBody scope (with_loop found q) y →
+      FitsItem scope found (and_then x (λ t. option_map (made (loop (loop_number found) t)) y))
   while_fits q scope found None y v none h = tt
   while_fits q scope found (Some t) None v none h = tt
   while_fits q scope found (Some t) (Some r) v none h =
@@ -409,8 +455,8 @@ module _ (p : ProgramTree) (ints : AreInts p.objects) where
         adds = subst (λ ks. Adds found r.found (declared_in r.tree) (loop_number found ∷ loops_in r.tree) (ks ++ checks_in r.tree)) (sym none)
             (adds_both found (with_loop found q) r.found [] (loop_number found ∷ []) [] (declared_in r.tree) (loops_in r.tree) (checks_in r.tree) first h.adds);
         more_ints = h.more_ints;
-        more_mains = λ a. h.more_mains (mains_more found.loops info refl a);
-        good = λ g k. let (kn, ty, ch, sc, be) = h.good g k in let w = v k in (k, (w.typed, scalar scope t w, ty), (w.checks, ch), (w.scoped, sc), refl);
+        more_mains = λ a. h.more_mains (mains_more found.loops info refl refl a);
+        good = λ g k. let (kn, ty, ch, sc, nd, be) = h.good g k in let w = v k in (kn, (w.typed, scalar scope t w, ty), (w.checks, ch), (w.scoped, nd, sc), be);
       }
 
   assert_fits : (q : Place) (scope : Scope) (found : Found) (x : Option TypedTree) → ValueFits scope x → NoChecks x →
@@ -465,7 +511,7 @@ module _ (p : ProgramTree) (ints : AreInts p.objects) where
       more_ints = λ a. j.more_ints (h.more_ints a);
       more_mains = λ a. j.more_mains (h.more_mains a);
       good = λ g k.
-          let (kn, ty, ch, sc, be) = h.good (grows_trans r.found q.found (found_in p) j.grows g) k in
+          let (kn, ty, ch, sc, be) = h.good (grows_trans r.found q.found (found_of_program p) j.grows g) k in
           let (kn2, ty2, ch2, sc2, be2) = j.good g kn in (
             kn2,
             typed_end r.tree q.tree ty ty2,
@@ -481,11 +527,11 @@ module _ (p : ProgramTree) (ints : AreInts p.objects) where
     item_fits scope found (small.Declare n q) = declaration_fits scope found (declare scope found n q) (declared_fits scope found n q)
     item_fits scope found (small.Initialise n q e) = initialise_fits e scope found (declare scope found n q) (declared_fits scope found n q)
     item_fits scope found (small.Assign n q e) = assign_fits scope found (lookup scope n) (typed scope e) (looks scope n) (value_fits scope e) (no_checks scope e)
-    item_fits scope found (small.If e s) = if_fits scope found (typed scope e) (item scope found s) (value_fits scope e) (no_checks scope e) (item_fits scope found s)
+    item_fits scope found (small.If e s) = if_fits scope found (typed scope e) (body_of s (within scope (item scope found s))) (value_fits scope e) (no_checks scope e) (body_fits s scope found (item_fits scope found s))
     item_fits scope found (small.IfElse e s z) =
-        if_else_fits z scope found (typed scope e) (item scope found s) (value_fits scope e) (no_checks scope e) (item_fits scope found s) (λ later. item_fits scope later z)
+        if_else_fits z scope found (typed scope e) (body_of s (within scope (item scope found s))) (value_fits scope e) (no_checks scope e) (body_fits s scope found (item_fits scope found s)) (λ later. item_fits scope later z)
     item_fits scope found (small.While q e s) =
-        while_fits q scope found (typed scope e) (item scope (with_loop found q) s) (value_fits scope e) (no_checks scope e) (item_fits scope (with_loop found q) s)
+        while_fits q scope found (typed scope e) (body_of s (within scope (item scope (with_loop found q) s))) (value_fits scope e) (no_checks scope e) (body_fits s scope (with_loop found q) (item_fits scope (with_loop found q) s))
     item_fits scope found (small.Assert q e) = assert_fits q scope found (typed scope e) (value_fits scope e) (no_checks scope e)
     item_fits scope found (small.Return e) = return_fits scope found (typed scope e) (value_fits scope e) (no_checks scope e)
 
@@ -520,60 +566,121 @@ in_numbers (x ∷ xs) n (suc i) h =
 abbrev nothing : ProgramTree
 nothing = record { objects = []; functions = []; loops = []; checks = []; names = []; static_values = []; thresholds = [] }
 
-lawful_with : (u : SmallUnitTree) (r : Elaborated (List CheckedTree)) → items [] nothing_found u.items ≡ Some r → length r.found.objects ≤ most_cells → IsLawful (program_with u r)
-lawful_with u r e few = made_lawful (subst (λ x. FitsAll nothing tt [] nothing_found x) e (items_fit nothing tt [] nothing_found u.items)) where
-  made_lawful : FitsAll nothing tt [] nothing_found (Some r) → IsLawful (program_with u r)
-  made_lawful first =
-      let ints = first.more_ints tt in
-      let mains = first.more_mains tt in
-      let fine : FitsAll (program_with u r) ints [] nothing_found (Some r) = subst (λ x. FitsAll (program_with u r) ints [] nothing_found x) e (items_fit (program_with u r) ints [] nothing_found u.items) in
-      let (kn, ty, ch, sc, be) = fine.good (grows_not r.found) tt in
-      let counted = cells_counted r.found.objects ints in
-      record {
-        main = 1;
-        main_function = main_function u (block r.tree);
-        has_main = refl;
-        is_main = ap (λ (m : Name). if bytes_eq m.bytes (codes "main") then Some (main_function u (block r.tree)) else None) (get_or-append_seam u.names main_name [] (record { bytes = [] }));
-        main_form = (refl, inl refl);
-        overflow = false;
-        functions = function_lawful (record { objects = fine.adds.objects; parameters = tt; loops = fine.adds.loops; typed = ty; scoped = sc; checks = ch });
-        objects = λ n o h. inr (object_function n o ints h);
-        loops = λ l i h. loop_function l i mains h;
-        checks = λ c h. subst (λ ks. IsIn c ks) fine.adds.checks (check_in c h);
-        have_cells = have_cells r.found.objects ints;
-        few_cells = omega arith;
-        statics = statics_none (cells_of (program_with u r)) 1 r.found.objects ints;
-      }
-    where
-      function_lawful : IsLawfulFunction (program_with u r) (record { checks = r.found.checks; is_reached = true; overflow = false }) 1 (main_function u (block r.tree)) →
-          (k : ℕ) (f : FunctionTree) → at_number (main_function u (block r.tree) ∷ []) k ≡ Some f →
-          IsLawfulFunction (program_with u r) (record { checks = r.found.checks; is_reached = k == 1; overflow = false }) k f
-      function_lawful h zero f e = cc
-      function_lawful h (suc zero) f e = let q : main_function u (block r.tree) ≡ f = cc in subst (λ f. IsLawfulFunction (program_with u r) (record { checks = r.found.checks; is_reached = true; overflow = false }) 1 f) q h
-      function_lawful h (suc (suc k)) f e = cc
+-- the objects of programs hold no pointers
+known_cells_of : (os : List ObjectInfo) (i : ℕ) (o : ObjectInfo) → AreInts os → slice_get os i ≡ Some o → has_pointer o.cells ≡ false
+known_cells_of [] i o h e = cc
+known_cells_of (x ∷ os) zero o (a, b, c, r) e = let q : x ≡ o = cc in ap (λ (y : ObjectInfo). has_pointer y.cells) (sym q) ∙ ap has_pointer a
+known_cells_of (x ∷ os) (suc i) o (a, b, c, r) e = known_cells_of os i o r e
 
-      some_function : (k : ℕ) → k ≡ 1 → IsSome (at_number (main_function u (block r.tree) ∷ []) k)
-      some_function k e = subst (λ k. IsSome (at_number (main_function u (block r.tree) ∷ []) k)) (sym e) tt
+no_pointer_at : (os : List ObjectInfo) (i : ℕ) → AreInts os → has_pointer (known_cells (slice_get os i)) ≡ false
+no_pointer_at [] i h = refl
+no_pointer_at (o ∷ os) zero (a, b, c, r) = ap has_pointer a
+no_pointer_at (o ∷ os) (suc i) (a, b, c, r) = no_pointer_at os i r
 
-      object_function : (n : ℕ) (o : ObjectInfo) → AreInts r.found.objects → at_number r.found.objects n ≡ Some o → IsSome (at_number (main_function u (block r.tree) ∷ []) o.function)
-      object_function zero o ints e = cc
-      object_function (suc i) o ints e = some_function o.function (known_main r.found.objects i o ints e)
+module _ (u : SmallUnitTree) (r : Elaborated (List CheckedTree)) where
+  abbrev before : ProgramTree
+  before = program_with u r
 
-      loop_function : (l : ℕ) (i : LoopInfo) → AreMains r.found.loops → at_number r.found.loops l ≡ Some i → IsSome (at_number (main_function u (block r.tree) ∷ []) i.function)
-      loop_function zero i mains e = cc
-      loop_function (suc j) i mains e = some_function i.function (known_mains_loop r.found.loops j i mains e)
+  abbrev whole : ProgramTree
+  whole = with_loop_sets before
 
-      check_in : (c : ℕ) → IsSome (at_number r.found.checks c) → IsIn c (numbers_where is_any 1 r.found.checks)
-      check_in zero h = absurd h
-      check_in (suc i) h = let s : i + 1 ≡ suc i = omega arith in subst (λ k. IsIn k (numbers_where is_any 1 r.found.checks)) s (in_numbers r.found.checks 1 i h)
+  abbrev main : FunctionTree
+  main = main_function u (block r.tree)
+
+  abbrev listed : Listing
+  listed = record { checks = r.found.checks; is_reached = true; overflow = false }
+
+  points_nowhere : AreInts r.found.objects → IsTypedStatement (cells_of whole) main_result (block r.tree) → main_among whole.names whole.functions ≡ Some main → ArePointsTo whole nowhere
+  points_nowhere ints ty is = record {
+    closed = record { first = first; statics = tt; body = λ f e. let q : main ≡ f = cc in subst (λ (f : FunctionTree). StatementIsTakenIn nowhere f.body) q (statement_nowhere (cells_of whole) no_pointers main_result (block r.tree) ty) };
+    least = λ other c n m e. cc;
+  } where
+    no_pointers : (n : ℕ) → has_pointer (cells_of whole n) ≡ false
+    no_pointers zero = refl
+    no_pointers (suc i) = no_pointer_at r.found.objects i ints
+
+    first : (n : ℕ) (o : ObjectInfo) → at_number r.found.objects n ≡ Some o → has_pointer o.cells ≡ true → nowhere n (first_member o.is_static) ≡ true
+    first zero o e h = cc
+    first (suc i) o e h = let f = known_cells_of r.found.objects i o ints e in cc
+
+  function_lawful : IsLawfulFunction whole listed 1 main → (k : ℕ) (f : FunctionTree) → at_number (main ∷ []) k ≡ Some f → IsLawfulFunction whole (record { checks = r.found.checks; is_reached = k == 1; overflow = false }) k f
+  function_lawful h zero f e = cc
+  function_lawful h (suc zero) f e = let q : main ≡ f = cc in subst (λ f. IsLawfulFunction whole listed 1 f) q h
+  function_lawful h (suc (suc k)) f e = cc
+
+  some_function : (k : ℕ) → k ≡ 1 → IsSome (at_number (main ∷ []) k)
+  some_function k e = subst (λ k. IsSome (at_number (main ∷ []) k)) (sym e) tt
+
+  object_function : (n : ℕ) (o : ObjectInfo) → AreInts r.found.objects → at_number r.found.objects n ≡ Some o → IsSome (at_number (main ∷ []) o.function)
+  object_function zero o ints e = cc
+  object_function (suc i) o ints e = some_function o.function (known_main r.found.objects i o ints e)
+
+  loop_function : (l : ℕ) (i : LoopInfo) → AreMains r.found.loops → at_number whole.loops l ≡ Some i → IsSome (at_number (main ∷ []) i.function)
+  loop_function zero i mains e = cc
+  loop_function (suc j) i mains e = some_function i.function (taken_function r.found.loops (functions_loop_sets before before.functions) j i mains e)
+
+  check_in : (c : ℕ) → IsSome (at_number r.found.checks c) → IsIn c (numbers_where is_any 1 r.found.checks)
+  check_in zero h = absurd h
+  check_in (suc i) h = let s : i + 1 ≡ suc i = omega arith in subst (λ k. IsIn k (numbers_where is_any 1 r.found.checks)) s (in_numbers r.found.checks 1 i h)
+
+  pub lawful_with : items [] nothing_found u.items ≡ Some r → length r.found.objects ≤ most_cells → IsLawful whole
+  lawful_with e few = made_lawful (subst (λ x. FitsAll nothing tt [] nothing_found x) e (items_fit nothing tt [] nothing_found u.items)) where
+    made_lawful : FitsAll nothing tt [] nothing_found (Some r) → IsLawful whole
+    made_lawful first =
+        let ints = first.more_ints tt in
+        let mains = first.more_mains tt in
+        let fine : FitsAll before ints [] nothing_found (Some r) = subst (λ x. FitsAll before ints [] nothing_found x) e (items_fit before ints [] nothing_found u.items) in
+        let (kn, ty, ch, sc, be) = fine.good (grows_not r.found) tt in
+        let counted = cells_counted r.found.objects ints in
+        let is : main_among whole.names whole.functions ≡ Some main = ap (λ (m : Name). if bytes_eq m.bytes (codes "main") then Some main else None) (get_or-append_seam u.names main_name [] (record { bytes = [] })) in
+        record {
+          main = 1;
+          main_function = main;
+          has_main = refl;
+          is_main = is;
+          main_form = (refl, inl refl);
+          overflow = false;
+          functions = function_lawful (record {
+            objects = fine.adds.objects;
+            parameters = tt;
+            loops = taken_numbers 1 r.found.loops (functions_loop_sets before before.functions) ∙ fine.adds.loops;
+            typed = ty;
+            scoped = sc;
+            checks = ch;
+            loop_sets = sets_taken r.found.loops (function_loop_sets before main) (loops_in (block r.tree)) mains (loop_numbers (cells_of before) (statics_of before) [] (block r.tree)) fine.adds.loops;
+          });
+          objects = λ n o h. inr (object_function n o ints h);
+          loops = λ l i h. loop_function l i mains h;
+          checks = λ c h. subst (λ ks. IsIn c ks) fine.adds.checks (check_in c h);
+          have_cells = have_cells r.found.objects ints;
+          few_cells = omega arith;
+          statics = statics_none (cells_of whole) 1 r.found.objects ints;
+          sets = nowhere;
+          are_sets = points_nowhere ints ty is;
+        }
+
+  -- loops without their sets are those that were found
+  pub bare_whole : items [] nothing_found u.items ≡ Some r → map bare whole.loops ≡ r.found.loops
+  bare_whole e =
+      let first : FitsAll nothing tt [] nothing_found (Some r) = subst (λ x. FitsAll nothing tt [] nothing_found x) e (items_fit nothing tt [] nothing_found u.items) in
+      bare_taken r.found.loops (functions_loop_sets before before.functions) (first.more_mains tt)
 
 pub program_lawful : (u : SmallUnitTree) (p : ProgramTree) → program_of u ≡ Some p → IsLawful p
 program_lawful u p e = go (items [] nothing_found u.items) refl e where
-  go : (x : Option (Elaborated (List CheckedTree))) → items [] nothing_found u.items ≡ x → option_map (program_with u) x ≡ Some p → IsLawful p
+  go : (x : Option (Elaborated (List CheckedTree))) → items [] nothing_found u.items ≡ x → option_map with_loop_sets (option_map (program_with u) x) ≡ Some p → IsLawful p
   go None is e = cc
   go (Some r) is e =
-      let q : program_with u r ≡ p = cc in
-      subst IsLawful q (lawful_with u r is (few_objects u (program_with u r) (ap (option_map (program_with u)) is)))
+      let q : with_loop_sets (program_with u r) ≡ p = cc in
+      subst IsLawful q (lawful_with u r is (few_objects u (with_loop_sets (program_with u r)) (ap (λ x. option_map with_loop_sets (option_map (program_with u) x)) is)))
+
+pub unit_says : (u : SmallUnitTree) (p : ProgramTree) → program_of u ≡ Some p → spelt_bodies p ≡ small.Block (plain_items u.items) ∷ []
+unit_says u p e = go (items [] nothing_found u.items) refl e where
+  go : (x : Option (Elaborated (List CheckedTree))) → items [] nothing_found u.items ≡ x → option_map with_loop_sets (option_map (program_with u) x) ≡ Some p → spelt_bodies p ≡ small.Block (plain_items u.items) ∷ []
+  go None is e = cc
+  go (Some r) is e =
+      let q : with_loop_sets (program_with u r) ≡ p = cc in
+      subst (λ p. spelt_bodies p ≡ small.Block (plain_items u.items) ∷ []) q
+      (ap (λ ls. spelt_item (record { objects = r.found.objects; loops = ls; checks = r.found.checks }) (block r.tree) ∷ []) (bare_whole u r is) ∙ ap (λ s. s ∷ []) (whole_says u r is))
 
 pub lawful_ok : {E : Type 0} (u : SmallUnitTree) (r : Result Program E) → IfOk r (λ p. program_of u ≡ Some (program_tree p)) → IfOk r (λ p. IsLawful (program_tree p))
 lawful_ok u (Ok p) h = program_lawful u (program_tree p) h

@@ -5,4 +5,5 @@ pub mod Places
 pub mod Rows
 pub mod Spelt
 pub mod Steps
+pub mod Taken
 pub mod Weights

@@ -17,11 +17,12 @@ use Rattle.l2_small.specs.SmallTrees.{SmallExprTree, SmallStmtTree, SmallStmtTre
 use Rattle.l2_program.specs.Checked as checked
 use Rattle.l2_program.specs.Checked.{TypedTree, CheckedTree, CheckedTrees}
 use Rattle.l2_program.specs.Programs.{ProgramTree}
+use Rattle.l2_meaning.specs.Changes.{with_loop_sets}
 use Rattle.l2_small_check.specs.declared.entry.Entry.{Entry}
 use Rattle.l2_small.specs.SmallForm.{and_then}
-use Rattle.l2_small_check.specs.Elaboration.{Scope, Found, Elaborated, lookup, int_cell, variable, read_of, assignment, assertion, loop, stays, made, within, typed, declare, is_declared, most_cells, object_number, loop_number, check_number, with_loop, with_check, chain, block, item, items, nothing_found, program_with, program_of}
+use Rattle.l2_small_check.specs.Elaboration.{Scope, Found, Elaborated, lookup, int_cell, variable, read_of, assignment, assertion, loop, stays, made, within, typed, declare, is_declared, most_cells, object_number, loop_number, check_number, with_loop, with_check, chain, block, is_declaration, body_of, item, items, nothing_found, program_with, program_of}
 use Rattle.l2_small_check.proofs.Places.{is_declared_more}
-use Rattle.l2_small_check.specs.Spelling.{AreApart, or_else, found_in, plain, plain_item, plain_items, nowhere, object_of, spelt, spelt_item, spelt_onto, spelt_bodies}
+use Rattle.l2_small_check.specs.Spelling.{AreApart, or_else, found_in, plain, plain_item, plain_items, nowhere, object_of, spelt, spelt_item, spelt_onto}
 
 -- a list is what another begins with
 abbrev pub Begins : {A : Type 0} → List A → List A → Type 0
@@ -205,24 +206,34 @@ module _ (f : Found) where
         (sound, ap (λ m. small.Assign m nowhere (spelt f t)) (h sound) ∙ ap (small.Assign n nowhere) (v sound));
   }
 
+  says_within : (s : SmallStmtTree) (scope : Scope) (found : Found) (x : Option (Elaborated CheckedTree)) → Says s scope found x → Says s scope found (within scope x)
+  says_within s scope found None h = tt
+  says_within s scope found (Some r) h = record { grows = h.grows; apart = h.apart; says = λ g sound. (sound, (h.says g sound).1) }
+
+  says_body : (s : SmallStmtTree) (scope : Scope) (found : Found) (x : Option (Elaborated CheckedTree)) → Says s scope found x → Says s scope found (body_of s (within scope x))
+  says_body s scope found x h = go (is_declaration s) where
+    go : (b : Bool) → Says s scope found (if b then None else within scope x)
+    go true = tt
+    go false = says_within s scope found x h
+
   says_if : (e : SmallExprTree) (s : SmallStmtTree) (scope : Scope) (found : Found) (x : Option TypedTree) (y : Option (Elaborated CheckedTree)) → SaysValue scope e x → Says s scope found y →
-      Says (small.If e s) scope found (and_then x (λ t. option_map (made (checked.If t)) (within scope y)))
+      Says (small.If e s) scope found (and_then x (λ t. option_map (made (checked.If t)) y))
   says_if e s scope found None y v h = tt
   says_if e s scope found (Some t) None v h = tt
   says_if e s scope found (Some t) (Some r) v h = record {
     grows = h.grows;
     apart = h.apart;
     says = λ g sound.
-        (sound, ap (λ d. small.If d (spelt_item f r.tree)) (v sound) ∙ ap (small.If (plain e)) (h.says g sound).1);
+        let k = h.says g sound in (k.0, ap (λ d. small.If d (spelt_item f r.tree)) (v sound) ∙ ap (small.If (plain e)) k.1);
   }
 
   says_if_else : (e : SmallExprTree) (s z : SmallStmtTree) (scope : Scope) (found : Found) (x : Option TypedTree) (y : Option (Elaborated CheckedTree)) → SaysValue scope e x → Says s scope found y →
       ((later : Found) → Says z scope later (item scope later z)) →
-      Says (small.IfElse e s z) scope found (and_then x (λ t. and_then (within scope y) (λ r. option_map (made (checked.IfElse t r.tree)) (within scope (item scope r.found z)))))
+      Says (small.IfElse e s z) scope found (and_then x (λ t. and_then y (λ r. option_map (made (checked.IfElse t r.tree)) (body_of z (within scope (item scope r.found z))))))
   says_if_else e s z scope found None y v h other = tt
   says_if_else e s z scope found (Some t) None v h other = tt
-  says_if_else e s z scope found (Some t) (Some r) v h other = go (item scope r.found z) (other r.found) where
-    go : (w : Option (Elaborated CheckedTree)) → Says z scope r.found w → Says (small.IfElse e s z) scope found (option_map (made (checked.IfElse t r.tree)) (within scope w))
+  says_if_else e s z scope found (Some t) (Some r) v h other = go (body_of z (within scope (item scope r.found z))) (says_body z scope r.found (item scope r.found z) (other r.found)) where
+    go : (w : Option (Elaborated CheckedTree)) → Says z scope r.found w → Says (small.IfElse e s z) scope found (option_map (made (checked.IfElse t r.tree)) w)
     go None k = tt
     go (Some q) k = record {
       grows = grows_trans found r.found q.found h.grows k.grows;
@@ -230,11 +241,11 @@ module _ (f : Found) where
       says = λ g sound.
           let first = h.says (grows_trans r.found q.found f k.grows g) sound in
           let second = k.says g sound in
-          (sound, ap (λ d. small.IfElse d (spelt_item f r.tree) (spelt_item f q.tree)) (v sound) ∙ ap (λ d. small.IfElse (plain e) d (spelt_item f q.tree)) first.1 ∙ ap (small.IfElse (plain e) (plain_item s)) second.1);
+          (second.0, ap (λ d. small.IfElse d (spelt_item f r.tree) (spelt_item f q.tree)) (v sound) ∙ ap (λ d. small.IfElse (plain e) d (spelt_item f q.tree)) first.1 ∙ ap (small.IfElse (plain e) (plain_item s)) second.1);
     }
 
   says_while : (p : Place) (e : SmallExprTree) (s : SmallStmtTree) (scope : Scope) (found : Found) (x : Option TypedTree) (y : Option (Elaborated CheckedTree)) → SaysValue scope e x → Says s scope (with_loop found p) y →
-      Says (small.While p e s) scope found (and_then x (λ t. option_map (made (loop (loop_number found) t)) (within scope y)))
+      Says (small.While p e s) scope found (and_then x (λ t. option_map (made (loop (loop_number found) t)) y))
   says_while p e s scope found None y v h = tt
   says_while p e s scope found (Some t) None v h = tt
   says_while p e s scope found (Some t) (Some r) v h =
@@ -245,7 +256,8 @@ module _ (f : Found) where
         says = λ g sound.
             let all = grows_trans (with_loop found p) r.found f h.grows g in
             let it = ap (or_else (record { place = nowhere; function = 0; mods = []; vars = [] })) (at_last found.loops (record { place = p; function = 1; mods = []; vars = [] }) f.loops all.loops) in
-            (sound, ap (λ l. small.While l.place (spelt f t) (spelt_item f r.tree)) it ∙ ap (λ d. small.While p d (spelt_item f r.tree)) (v sound) ∙ ap (small.While p (plain e)) (h.says g sound).1);
+            let k = h.says g sound in
+            (k.0, ap (λ l. small.While l.place (spelt f t) (spelt_item f r.tree)) it ∙ ap (λ d. small.While p d (spelt_item f r.tree)) (v sound) ∙ ap (small.While p (plain e)) k.1);
       }
 
   says_assert : (p : Place) (e : SmallExprTree) (scope : Scope) (found : Found) (x : Option TypedTree) → SaysValue scope e x →
@@ -289,11 +301,12 @@ module _ (f : Found) where
     item_says scope found (small.Declare n p) = says_declaration n p scope found (declare scope found n p) (declared_says scope found n p)
     item_says scope found (small.Initialise n p e) = says_initialise n p e scope found (declare scope found n p) (declared_says scope found n p)
     item_says scope found (small.Assign n p e) = says_assign n p e scope found (lookup scope n) (typed scope e) (finds scope n) (value_says scope e)
-    item_says scope found (small.If e s) = says_if e s scope found (typed scope e) (item scope found s) (value_says scope e) (item_says scope found s)
+    item_says scope found (small.If e s) = says_if e s scope found (typed scope e) (body_of s (within scope (item scope found s))) (value_says scope e) (says_body s scope found (item scope found s) (item_says scope found s))
     item_says scope found (small.IfElse e s z) =
-        says_if_else e s z scope found (typed scope e) (item scope found s) (value_says scope e) (item_says scope found s) (λ later. item_says scope later z)
+        says_if_else e s z scope found (typed scope e) (body_of s (within scope (item scope found s))) (value_says scope e) (says_body s scope found (item scope found s) (item_says scope found s)) (λ later. item_says scope later z)
     item_says scope found (small.While p e s) =
-        says_while p e s scope found (typed scope e) (item scope (with_loop found p) s) (value_says scope e) (item_says scope (with_loop found p) s)
+        says_while p e s scope found (typed scope e) (body_of s (within scope (item scope (with_loop found p) s))) (value_says scope e)
+        (says_body s scope (with_loop found p) (item scope (with_loop found p) s) (item_says scope (with_loop found p) s))
     item_says scope found (small.Assert p e) = says_assert p e scope found (typed scope e) (value_says scope e)
     item_says scope found (small.Return e) = says_return e scope found (typed scope e) (value_says scope e)
 
@@ -302,23 +315,17 @@ module _ (f : Found) where
     items_says scope found (small.also all s) = says_also all s scope found (items scope found all) (items_says scope found all) (λ there later. item_says there later s)
 
 -- the whole
-abbrev SaysUnit : SmallUnitTree → Option ProgramTree → Type 0
-SaysUnit u None = Unit {0}
-SaysUnit u (Some p) = spelt_bodies p ≡ small.Block (plain_items u.items) ∷ []
-
-says_unit : (u : SmallUnitTree) (x : Option (Elaborated (List CheckedTree))) → ((f : Found) → SaysAll f u.items [] nothing_found x) → SaysUnit u (option_map (program_with u) x)
-says_unit u None h = tt
-says_unit u (Some r) h = ap (λ ts. small.Block ts ∷ []) ((h r.found).says (grows_not r.found) tt).1
-
-pub unit_says : (u : SmallUnitTree) (p : ProgramTree) → program_of u ≡ Some p → spelt_bodies p ≡ small.Block (plain_items u.items) ∷ []
-unit_says u p e = subst (SaysUnit u) e (says_unit u (items [] nothing_found u.items) (λ f. items_says f [] nothing_found u.items))
+pub whole_says : (u : SmallUnitTree) (r : Elaborated (List CheckedTree)) → items [] nothing_found u.items ≡ Some r → spelt_item r.found (block r.tree) ≡ small.Block (plain_items u.items)
+whole_says u r e =
+    let h : SaysAll r.found u.items [] nothing_found (Some r) = subst (λ x. SaysAll r.found u.items [] nothing_found x) e (items_says r.found [] nothing_found u.items) in
+    ap small.Block (h.says (grows_not r.found) tt).1
 
 -- the objects of the whole
 abbrev UnitApart : Option ProgramTree → Type 0
 UnitApart None = Unit {0}
 UnitApart (Some p) = Apart (found_in p)
 
-apart_unit : (u : SmallUnitTree) (x : Option (Elaborated (List CheckedTree))) → SaysAll nothing_found u.items [] nothing_found x → UnitApart (option_map (program_with u) x)
+apart_unit : (u : SmallUnitTree) (x : Option (Elaborated (List CheckedTree))) → SaysAll nothing_found u.items [] nothing_found x → UnitApart (option_map with_loop_sets (option_map (program_with u) x))
 apart_unit u None h = tt
 apart_unit u (Some r) h = h.apart (tt, omega arith)
 

@@ -1,7 +1,7 @@
 -- The program of a unit of the small form: names stand for objects, and objects, loops and checks are numbered from 1 in the order of the text.
 -- A unit has none where a name is declared a second time or is used where it isn't in scope, where a constant is no value of `int`,
--- or where there are too many cells.
-use Rattle.std.specs.Prelude.{ℕ, ◌+◌, ◌==◌, Bool, false, ◌||◌, if◌then◌else◌, nat_lt, List, [], ◌∷◌, ◌++◌, length, codes, Option, Some, None, option_map}
+-- where a loop's or a branch's body is a declaration, or where there are too many cells.
+use Rattle.std.specs.Prelude.{ℕ, ◌+◌, ◌==◌, Bool, true, false, ◌||◌, if◌then◌else◌, nat_lt, List, [], ◌∷◌, ◌++◌, length, codes, Option, Some, None, option_map}
 use Rattle.l2_bits.specs.Types.{int_type}
 use Rattle.l2_bits.specs.Values.{is_value}
 use Rattle.l2_syntax.specs.declared.place.Place.{Place}
@@ -20,6 +20,8 @@ use Rattle.l2_program.specs.Checked as checked
 use Rattle.l2_program.specs.Checked.{TypedTree, CheckedTree, CheckedTrees}
 use Rattle.l2_program.specs.Names.{names_of, names_in}
 use Rattle.l2_program.specs.Programs.{ProgramTree, FunctionTree}
+use Rattle.l2_meaning.specs.Changes.{with_loop_sets}
+use Rattle.l2_meaning.specs.Thresholds.{thresholds_of}
 use Rattle.l2_small_check.specs.declared.entry.Entry.{Entry}
 
 -- the names in scope, in the order of their declarations
@@ -127,6 +129,16 @@ assertion c t = checked.Evaluate (checked.Assert c t)
 abbrev pub loop : ℕ → TypedTree → CheckedTree → CheckedTree
 loop l t s = checked.While l (names_of t ++ names_in s) t s
 
+-- a declaration is no statement, so it isn't what a loop or a branch does (C11 6.8)
+abbrev pub is_declaration : SmallStmtTree → Bool
+is_declaration (small.Declare n p) = true
+is_declaration (small.Initialise n p e) = true
+is_declaration s = false
+
+-- what a loop or a branch does
+abbrev pub body_of : SmallStmtTree → Option (Elaborated CheckedTree) → Option (Elaborated CheckedTree)
+body_of s x = if is_declaration s then None else x
+
 abbrev mutual
   pub item : Scope → Found → SmallStmtTree → Option (Elaborated CheckedTree)
   item scope found (small.Block all) = option_map (made block) (within scope (items scope found all))
@@ -137,13 +149,13 @@ abbrev mutual
   item scope found (small.Assign n p e) =
       and_then (lookup scope n) (λ o. option_map (λ t. stays scope found (assignment o t)) (typed scope e))
   item scope found (small.If e s) =
-      and_then (typed scope e) (λ t. option_map (made (checked.If t)) (within scope (item scope found s)))
+      and_then (typed scope e) (λ t. option_map (made (checked.If t)) (body_of s (within scope (item scope found s))))
   item scope found (small.IfElse e s z) =
-      and_then (typed scope e) (λ t. and_then (within scope (item scope found s)) (λ r.
-      option_map (made (checked.IfElse t r.tree)) (within scope (item scope r.found z))))
+      and_then (typed scope e) (λ t. and_then (body_of s (within scope (item scope found s))) (λ r.
+      option_map (made (checked.IfElse t r.tree)) (body_of z (within scope (item scope r.found z)))))
   item scope found (small.While p e s) =
       and_then (typed scope e) (λ t.
-      option_map (made (loop (loop_number found) t)) (within scope (item scope (with_loop found p) s)))
+      option_map (made (loop (loop_number found) t)) (body_of s (within scope (item scope (with_loop found p) s))))
   item scope found (small.Assert p e) =
       option_map (λ t. stays scope (with_check found p) (assertion (check_number found) t)) (typed scope e)
   item scope found (small.Return e) = option_map (λ t. stays scope found (checked.Return t)) (typed scope e)
@@ -173,8 +185,9 @@ program_with u r = record {
   checks = r.found.checks;
   names = u.names ++ main_name ∷ [];
   static_values = [];
-  thresholds = [];
+  thresholds = thresholds_of u.constants;
 }
 
+-- its loops have the sets of its trees
 abbrev pub program_of : SmallUnitTree → Option ProgramTree
-program_of u = option_map (program_with u) (items [] nothing_found u.items)
+program_of u = option_map with_loop_sets (option_map (program_with u) (items [] nothing_found u.items))

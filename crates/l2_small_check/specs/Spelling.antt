@@ -103,8 +103,12 @@ abbrev mutual
   spelt_onto f ts checked.none = ts
   spelt_onto f ts (checked.more s rest) = spelt_onto f (also ts (spelt_item f s)) rest
 
+-- a loop without its sets
+abbrev pub bare : LoopInfo → LoopInfo
+bare l = record l { mods = []; vars = [] }
+
 abbrev pub found_in : ProgramTree → Found
-found_in p = record { objects = p.objects; loops = p.loops; checks = p.checks }
+found_in p = record { objects = p.objects; loops = map bare p.loops; checks = p.checks }
 
 -- the bodies of a program's functions, as texts
 abbrev pub spelt_bodies : ProgramTree → List SmallStmtTree

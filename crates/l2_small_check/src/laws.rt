@@ -8,7 +8,7 @@ ghost use Rattle.l2_small_check.specs.Spelling.{plain_items, spelt_bodies, AreAp
 
 /// A program says what its text says: with each number looked up in the program's lists it is the text again, but for
 /// parentheses and for the places of the names that expressions and assignments use.
-#[tactic(auto, using(crate::proofs::Spelt::unit_says))]
+#[tactic(auto, using(crate::proofs::LawfulPrograms::unit_says))]
 pub fn programs_say_what_texts_say()
     ensures { (u : SmallUnitTree) (p : ProgramTree) → program_of u ≡ Some p → spelt_bodies p ≡ Block (plain_items u.items) ∷ [] }
 {}

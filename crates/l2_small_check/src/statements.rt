@@ -2,7 +2,7 @@
 ghost use Rattle.std.specs.Prelude.{◌≡◌, Some, None, map, option_map, IfOk, IsErrOf};
 ghost use Rattle.l2_small.specs.SmallTrees.{none, Initialise, Assign, Assert, small_expr_tree, small_stmt_tree, small_stmts_onto};
 ghost use Rattle.l2_program.specs.Checked.{checked_tree};
-ghost use Rattle.l2_small_check.specs.Elaboration.{item, items, within, made, block};
+ghost use Rattle.l2_small_check.specs.Elaboration.{item, items, within, is_declaration, body_of, made, block};
 ghost use Rattle.l2_small_check.specs.Tables.{elaborated, Keeps};
 
 use crate::error::CheckError;
@@ -88,19 +88,19 @@ fn item(alloc: Global, table: &mut Table, s: &SmallStmt) -> Result<Checked, Chec
         SmallStmt::Assign(name, place, e) => assign(alloc, table, *name, *place, e),
         SmallStmt::If(e, s) => {
             let test = typed(alloc, table, e)?;
-            let body = within(alloc, table, s)?;
+            let body = body(alloc, table, s)?;
             if_then(alloc, test, body)
         }
         SmallStmt::IfElse(e, s, z) => {
             let test = typed(alloc, table, e)?;
-            let then = within(alloc, table, s)?;
-            let other = within(alloc, table, z)?;
+            let then = body(alloc, table, s)?;
+            let other = body(alloc, table, z)?;
             if_else(alloc, test, then, other)
         }
         SmallStmt::While(place, e, s) => {
             let test = typed(alloc, table, e)?;
             let number = table.add_loop(alloc, *place)?;
-            let body = within(alloc, table, s)?;
+            let body = body(alloc, table, s)?;
             while_loop(alloc, number, test, body)
         }
         SmallStmt::Assert(place, e) => assert_that(alloc, table, *place, e),
@@ -111,18 +111,38 @@ fn item(alloc: Global, table: &mut Table, s: &SmallStmt) -> Result<Checked, Chec
     }
 }
 
-/// What a statement becomes whose names go out of scope at its end.
+/// What the statement of a branch or a loop becomes, whose names go out of scope at its end.
 #[cycle(statements)]
 #[tactic(auto, using(crate::proofs::Steps::steps, crate::proofs::Kept::kept))]
-fn within(alloc: Global, table: &mut Table, s: &SmallStmt) -> Result<Checked, CheckError>
-    ensures ok { IfOk result (λ t. within table.old.scope (item table.old.scope table.old.found (small_stmt_tree s.now)) ≡ Some (elaborated (checked_tree t) table.new)) }
-    ensures not_small { IsErrOf result CheckError.NotSmall → item table.old.scope table.old.found (small_stmt_tree s.now) ≡ None }
+fn body(alloc: Global, table: &mut Table, s: &SmallStmt) -> Result<Checked, CheckError>
+    ensures ok { IfOk result (λ t. body_of (small_stmt_tree s.now) (within table.old.scope (item table.old.scope table.old.found (small_stmt_tree s.now))) ≡ Some (elaborated (checked_tree t) table.new)) }
+    ensures not_small { IsErrOf result CheckError.NotSmall → body_of (small_stmt_tree s.now) (within table.old.scope (item table.old.scope table.old.found (small_stmt_tree s.now))) ≡ None }
     ensures scope { IfOk result (λ t. table.new.scope ≡ table.old.scope) }
 {
+    if is_declaration(s) {
+        return Err(CheckError::NotSmall);
+    }
     let count = table.in_scope();
-    let body = item(alloc, table, s)?;
+    let inside = item(alloc, table, s)?;
     table.leave(count);
-    Ok(body)
+    Ok(inside)
+}
+
+/// Whether a statement is a declaration.
+fn is_declaration(s: &SmallStmt) -> bool
+    ensures { result ≡ is_declaration (small_stmt_tree s.now) }
+{
+    match s {
+        SmallStmt::Declare(_, _) => true,
+        SmallStmt::Initialise(_, _, _) => true,
+        SmallStmt::Block(_) => false,
+        SmallStmt::Assign(_, _, _) => false,
+        SmallStmt::If(_, _) => false,
+        SmallStmt::IfElse(_, _, _) => false,
+        SmallStmt::While(_, _, _) => false,
+        SmallStmt::Assert(_, _) => false,
+        SmallStmt::Return(_) => false,
+    }
 }
 
 /// What a block becomes. Its names go out of scope at its end.

@@ -1,11 +1,13 @@
 // Units.
-ghost use Rattle.std.specs.Prelude.{◌≡◌, ◌∷◌, [], Some, None, map, IfOk, IfErr, IsErrOf};
+ghost use Rattle.std.specs.Prelude.{◌≡◌, List, ◌∷◌, [], Some, None, map, IfOk, IfErr, IsErrOf};
 ghost use Rattle.l2_bits.specs.Types.{int_type};
 ghost use Rattle.l2_runs.specs.declared.cells.CellType.TheVariants.{Integer};
 ghost use Rattle.l2_small.specs.SmallTrees.{none, small_unit_tree};
 ghost use Rattle.l2_program.specs.Checked.{checked_tree};
 ghost use Rattle.l2_program.specs.Programs.{function_tree, program_tree};
+ghost use Rattle.l2_syntax.specs.declared.token.Token.{Token};
 ghost use Rattle.l2_meaning.specs.Lawful.{IsLawful};
+ghost use Rattle.l2_meaning.specs.Thresholds.{thresholds_of};
 ghost use Rattle.l2_small_check.specs.Elaboration.{program_of, program_with, main_name, block, stays};
 ghost use Rattle.l2_small_check.specs.Founds.{found_of};
 ghost use Rattle.l2_small_check.specs.declared.error.CheckError.TheVariants.{NoMemory};
@@ -15,10 +17,12 @@ use crate::found::Found;
 use crate::statements::items;
 use crate::table::{Table, number};
 use l2_bits::{List, Ty};
+use l2_mods::with_loop_sets;
 use l2_program::{Checked, FunctionInfo, Program};
 use l2_runs::CellType;
 use l2_small::SmallUnit;
 use l2_syntax::{Name, Place};
+use l2_thresholds::thresholds;
 use std::alloc::Global;
 
 /// The program of a unit of the small form: names stand for the objects that are in scope (C11 6.2.1), and objects, loops
@@ -42,10 +46,13 @@ fn program_of(alloc: Global, unit: SmallUnit) -> Result<Program, CheckError>
         main,
         items: all,
         names,
+        constants,
     } = unit;
     let mut table = Table::new(alloc);
     let body = items(alloc, &mut table, &all)?;
-    program_with(alloc, main, names, table.into_found(), body)
+    let bounds = thresholds(alloc, constants.as_slice())?;
+    let program = program_with(alloc, main, names, table.into_found(), body, bounds)?;
+    Ok(with_loop_sets(alloc, program)?)
 }
 
 /// The name of the one function.
@@ -65,8 +72,9 @@ fn program_with(
     names: List<Name>,
     found: Found,
     body: Vec<Checked>,
+    thresholds: Vec<i128>,
 ) -> Result<Program, CheckError>
-    ensures ok { IfOk result (λ p. program_with (record { main = main; items = none; names = names }) (stays [] (found_of found) (map checked_tree body.items)) ≡ program_tree p) }
+    ensures ok { (constants : List Token) → thresholds.items ≡ thresholds_of constants → IfOk result (λ p. program_with (record { main = main; items = none; names = names; constants = constants }) (stays [] (found_of found) (map checked_tree body.items)) ≡ program_tree p) }
     ensures err { IfErr result (λ f. f ≡ NoMemory) }
 {
     let mut names = names.into_vec();
@@ -81,7 +89,7 @@ fn program_with(
         checks: found.checks,
         names: List::new(names),
         static_values: List::new(Vec::new(alloc)),
-        thresholds: List::new(Vec::new(alloc)),
+        thresholds: List::new(thresholds),
     })
 }
 

@@ -21,7 +21,7 @@ pub fn run<H: Shelf, K: Sink>(alloc: Global, words: &[String], shelf: &mut H, ou
     let Ok(answer) = answer(alloc, words, shelf) else {
         return Status::NoMemory;
     };
-    match write_text(answer.line.as_bytes(), out) {
+    match write_text(answer.output.as_slice(), out) {
         Ok(()) => answer.status,
         Err(Failed) => Status::WriteFault,
     }

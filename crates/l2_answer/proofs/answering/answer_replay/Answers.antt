@@ -1,6 +1,7 @@
-use Rattle.std.proofs.Common.{◌≡◌, Err, ap}
+use Rattle.std.proofs.Common.{Err, ap, [], ◌∷◌}
+use Rattle.l2_request.specs.Requests.{Replay}
 use Rattle.l2_inputs.specs.Inputs.{input_of}
-use Rattle.l2_answer.proofs.Requests.{judged_replay, unread_replay}
+use Rattle.l2_answer.proofs.Requests.{replay_inputs, judged_replay, unread}
 use Rattle.l2_answer.proofs.answering.answer_replay.Goals as goal
 
 pub returns-in-Ok-clause-answers : goal.returns-in-Ok-clause-answers
@@ -12,6 +13,7 @@ returns-in-Ok-clause-answers g c = λ words asks.
 
 pub returns-in-Err-clause-answers : goal.returns-in-Err-clause-answers
 returns-in-Err-clause-answers g c = λ words asks.
-    unread_replay (g.H.Shelf.files c.args.shelf.now) (g.H.Shelf.read_faults c.args.shelf.now) (g.H.Shelf.read_faults c.read_two.new.shelf) words
-    c.args.file.now c.args.values.now (input_of c.text.result) (input_of c.values_file.result) c.in-Err.error asks c.text.ensures c.values_file.ensures
+    unread (g.H.Shelf.files c.args.shelf.now) (g.H.Shelf.read_faults c.args.shelf.now) (g.H.Shelf.read_faults c.read_two.new.shelf) words
+    (Replay c.args.file.now c.args.values.now) (input_of c.text.result ∷ input_of c.values_file.result ∷ []) c.in-Err.error asks
+    (replay_inputs c.args.file.now c.args.values.now (input_of c.text.result) (input_of c.values_file.result) c.text.ensures c.values_file.ensures)
     (λ q. c.in-Err.ensures.fault (ap Err q)) (λ q. c.in-Err.ensures.too_long (ap Err q)) c.unread.result c.unread.ensures

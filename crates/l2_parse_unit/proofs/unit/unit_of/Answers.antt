@@ -1,4 +1,4 @@
-use Rattle.std.proofs.Common.{◌≡◌, ap, sym, ◌∙◌, map}
+use Rattle.std.proofs.Common.{ap, ◌∙◌, map}
 use Rattle.l2_reader.specs.Parts.{tree_of}
 use Rattle.l2_tree.specs.Units.{external_tree}
 use Rattle.l2_tree.specs.Spelling.{run_unit}

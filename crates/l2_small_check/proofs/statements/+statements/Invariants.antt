@@ -10,8 +10,8 @@ use Rattle.l2_small_check.proofs.statements.+statements.Given as goal
 abbrev pub decreases-item : goal.decreases-item
 decreases-item l = 3 * weight (small_stmt_tree l.s.now)
 
-abbrev pub decreases-within : goal.decreases-within
-decreases-within l = 3 * weight (small_stmt_tree l.s.now) + 1
+abbrev pub decreases-body : goal.decreases-body
+decreases-body l = 3 * weight (small_stmt_tree l.s.now) + 1
 
 abbrev pub decreases-items : goal.decreases-items
 decreases-items l = 3 * weights (small_stmts_onto none l.all.now) + 1

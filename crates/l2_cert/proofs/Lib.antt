@@ -1,0 +1,12 @@
+pub mod Bytes
+pub mod Files
+pub mod Finish
+pub mod Goes
+pub mod Numerals
+pub mod Plain
+pub mod Repeats
+pub mod Spaces
+pub mod Stands
+pub mod Unique
+pub mod Whole
+pub mod Written

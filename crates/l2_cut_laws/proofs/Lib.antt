@@ -1,0 +1,14 @@
+pub mod TreeAgreeing
+pub mod TreeMeeting
+pub mod Tidy
+pub mod TreeKept
+pub mod TreeFrames
+pub mod LawfulTrees
+pub mod TreeFollowing
+pub mod TreeBounding
+pub mod Starts
+pub mod PointFacts
+pub mod RankNumbers
+pub mod Following
+pub mod Consequences
+pub mod TreeShort

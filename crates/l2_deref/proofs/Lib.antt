@@ -1,0 +1,3 @@
+pub mod Among
+pub mod Agreeing
+pub mod Alike

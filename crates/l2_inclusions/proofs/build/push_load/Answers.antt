@@ -1,0 +1,12 @@
+use Rattle.std.proofs.Common.{arith, subst, ◌≡◌, true}
+use Rattle.l2_runs.specs.declared.member.Member.{Member}
+use Rattle.l2_runs.specs.Members.{has}
+use Rattle.l2_inclusions.specs.Rows.{members_at}
+use Rattle.l2_inclusions.proofs.Due.{due_load}
+use Rattle.l2_inclusions.proofs.build.push_load.Goals as goal
+
+pub returns-in_ok-push : goal.returns-in_ok-push
+returns-in_ok-push c = λ all.
+    due_load all c.args.rows.now c.args.graph.now c.push.new.self c.args.number c.in-Object.object c.object_node-node.result c.load_node.result c.requires.number
+    (subst (λ (x : Member). has (members_at c.args.rows.now.sets c.args.number) x ≡ true) c.in-Object.is c.requires.member)
+    (omega (arith, c.object_node-node.ensures, c.nodes.ensures.value)) c.object_node-node.ensures c.load_node.ensures c.in_ok-push.ensures

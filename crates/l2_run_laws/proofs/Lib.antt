@@ -1,0 +1,12 @@
+pub mod Kept
+pub mod CutRuns
+pub mod Judging
+pub mod CutLoops
+pub mod Frames
+pub mod LoopFrames
+pub mod Scatters
+pub mod Agreeing
+pub mod Meeting
+pub mod Bounds
+pub mod Pointing
+pub mod ShortRuns

@@ -1,0 +1,15 @@
+pub mod Shows
+pub mod Labels
+pub mod Slots
+pub mod Acts
+pub mod Reaches
+pub mod Frames
+pub mod Instructions
+pub mod Heads
+pub mod Turns
+pub mod Copies
+pub mod Whole
+pub mod Givens
+pub mod Enters
+pub mod Solutions
+pub mod Orders

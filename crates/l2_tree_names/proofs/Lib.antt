@@ -1,0 +1,5 @@
+pub mod Rounds
+pub mod Folds
+pub mod Numbers
+pub mod Names
+pub mod BasePlaces

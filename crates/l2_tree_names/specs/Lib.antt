@@ -1,0 +1,4 @@
+pub mod Declarators
+pub mod Rounds
+pub mod Specifiers
+pub mod Numbers

@@ -1,0 +1,14 @@
+pub mod Steps
+pub mod Tokens
+pub mod Counts
+pub mod Specifiers
+pub mod Shapes
+pub mod Declarators
+pub mod Parameters
+pub mod Starts
+pub mod Declarations
+pub mod Formed
+pub mod Items
+pub mod Statements
+pub mod Typedefs
+pub mod Units
