@@ -49,7 +49,9 @@ fn counts(alloc: Global, loaded: &Loaded) -> Result<String, AllocError> {
         Some(code) => {
             let named = code.objects.as_slice().len();
             let unwound = unwindings(alloc, loaded)?;
-            format!(in alloc; "objects {objects} {named} loops {loops} sets {sets} {temps} {unwound}")
+            format!(in alloc;
+                "objects {objects} {named} loops {loops} sets {sets} {temps} {unwound}"
+            )
         }
         None => format!(in alloc; "objects {objects} loops {loops} too large, sets {sets} {temps}"),
     }
