@@ -7,3 +7,4 @@ pub mod Shown
 pub mod Signed
 pub mod Constants
 pub mod Makings
+pub mod Choices

@@ -1,12 +1,14 @@
 -- Words that show whole numbers: their bits are those of the number in two's complement.
 use Rattle.std.specs.Prelude.{◌≡◌, ℕ, ◌-◌, ◌^◌, ◌≤◌, Bool, true, false, not, int_lt, ℤ, pos, neg_ℤ, ◌+ℤ◌, ◌-ℤ◌, ◌*ℤ◌, ◌≤ℤ◌, ◌<ℤ◌, List, length}
 use Rattle.std.specs.Ordering.{int_eq}
-use Rattle.l2_bits.specs.Values.{residue}
+use Rattle.l2_bits.specs.declared.types.Ty.{Ty}
+use Rattle.l2_bits.specs.Values.{residue, wrap}
 use Rattle.l2_gates.specs.Gates.{Lit, F, Made}
-use Rattle.l2_gates.specs.Models.{Ok, Gives}
-use Rattle.l2_circuits.specs.Words.{sum, sub, less, less_equal, eq, constant, extended}
+use Rattle.l2_gates.specs.Models.{value, Ok, Gives}
+use Rattle.l2_circuits.specs.Words.{sum, sub, less, less_equal, eq, choose, constant, extended, truth_word}
 use Rattle.l2_circuits.specs.Products.{mul}
-use Rattle.l2_circuit_laws.specs.Values.{values, number}
+use Rattle.l2_circuit_laws.specs.Law.{picked}
+use Rattle.l2_circuit_laws.specs.Values.{values, bit_number, number}
 
 -- a word of n bits shows a number
 pub record Shows (v : ℕ → Bool) (n : ℕ) (a : List Lit) (x : ℤ) : Type 0 where
@@ -70,3 +72,17 @@ abbrev pub ExtensionsShow : Type 0
 ExtensionsShow =
     (v : ℕ → Bool) → v 0 ≡ true → (signed : Bool) (n k : ℕ) (a : List Lit) (x : ℤ) → 1 ≤ n → n ≤ k
     → Fits signed n x → Shows v n a x → Shows v k (extended k signed a) x
+
+-- a truth value as a word of 32 bits
+abbrev pub TruthsShow : Type 0
+TruthsShow = (v : ℕ → Bool) → v 0 ≡ true → (l : Lit) → Shows v 32 (truth_word l) (pos (bit_number (value v l)))
+
+-- one of two words shows what it showed
+abbrev pub ChoicesShow : Type 0
+ChoicesShow =
+    (v : ℕ → Bool) → v 0 ≡ true → (n : ℕ) (c : Lit) (a b : List Lit) (x y : ℤ) (m : Made) → Shows v n a x → Shows v n b y
+    → Ok v (choose c a b m).made → Gains v m n (choose c a b m).bits (picked (value v c) x y)
+
+-- a word of a type's width shows the number wrapped, too
+abbrev pub WrapsShow : Type 0
+WrapsShow = (v : ℕ → Bool) (ty : Ty) (a : List Lit) (x : ℤ) → Shows v ty.width a x → Shows v ty.width a (wrap ty x)

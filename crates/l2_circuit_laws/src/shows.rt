@@ -1,5 +1,5 @@
 //! Circuits over words that show whole numbers.
-ghost use Rattle.l2_circuit_laws.specs.Shows.{SumsShow, DifferencesShow, ProductsShow, LessShows, LessEqualShows, EqualShows, ConstantsShow, ExtensionsShow};
+ghost use Rattle.l2_circuit_laws.specs.Shows.{SumsShow, DifferencesShow, ProductsShow, LessShows, LessEqualShows, EqualShows, ConstantsShow, ExtensionsShow, TruthsShow, ChoicesShow, WrapsShow};
 
 /// A sum of words shows the sum.
 pub fn sums_show()
@@ -39,4 +39,19 @@ pub fn constants_show()
 /// A longer word shows the number too, where it fits the shorter one.
 pub fn extensions_show()
     ensures { ExtensionsShow }
+{}
+
+/// A truth value as a word.
+pub fn truths_show()
+    ensures { TruthsShow }
+{}
+
+/// One of two words shows what it showed.
+pub fn choices_show()
+    ensures { ChoicesShow }
+{}
+
+/// A word of a type's width shows the number wrapped, too.
+pub fn wraps_show()
+    ensures { WrapsShow }
 {}

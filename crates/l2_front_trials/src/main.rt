@@ -1,11 +1,43 @@
-//! Loads the texts on its input, a line each, and one with more instructions than code may have, and prints what comes of each.
+//! Loads the texts on its input, a line each, and one with more instructions than code may have, and prints what comes of each,
+//! and whether its code fits with 1 and with 64 copies of each turn.
 #![tactic(auto)]
 
+ghost use Rattle.l2_code.specs.Sets.{AllRise};
+
+use l2_code::{Code, Sets};
 use l2_front::{Loaded, load};
 use l2_limits::TEXT_LIMIT;
 use l2_syntax::TextFault;
+use l2_unwind::{UnwindError, unwind};
 use std::alloc::{AllocError, Global};
 use std::io;
+
+/// Whether code fits with so many copies of each turn and no rows, or how much it weighs.
+fn unwound(alloc: Global, code: &Code, sets: &Sets, copies: u32) -> Result<String, AllocError>
+    requires { AllRise sets.now.sets }
+{
+    match unwind(alloc, code, sets, copies, &[]) {
+        Ok(flat) => {
+            let copies = flat.copies;
+            format!(in alloc; "{copies}: fits")
+        }
+        Err(UnwindError::TooLarge { size }) => format!(in alloc; "{copies}: too large, {size}"),
+        Err(UnwindError::NoMemory) => Err(AllocError),
+    }
+}
+
+/// What unwinding says of what was loaded, for 1 and for 64 copies.
+fn unwindings(alloc: Global, loaded: &Loaded) -> Result<String, AllocError> {
+    loaded.whole();
+    match &loaded.code {
+        Some(code) => {
+            let one = unwound(alloc, code, &loaded.sets, 1)?;
+            let most = unwound(alloc, code, &loaded.sets, 64)?;
+            format!(in alloc; "unwound {one}, {most}")
+        }
+        None => String::from_str(alloc, "no code"),
+    }
+}
 
 /// How large what was loaded is.
 fn counts(alloc: Global, loaded: &Loaded) -> Result<String, AllocError> {
@@ -16,7 +48,10 @@ fn counts(alloc: Global, loaded: &Loaded) -> Result<String, AllocError> {
     match &loaded.code {
         Some(code) => {
             let named = code.objects.as_slice().len();
-            format!(in alloc; "objects {objects} {named} loops {loops} sets {sets} {temps}")
+            let unwound = unwindings(alloc, loaded)?;
+            format!(in alloc;
+                "objects {objects} {named} loops {loops} sets {sets} {temps} {unwound}"
+            )
         }
         None => format!(in alloc; "objects {objects} loops {loops} too large, sets {sets} {temps}"),
     }

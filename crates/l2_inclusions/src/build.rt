@@ -168,8 +168,23 @@ fn push_stored(
     Ok(())
 }
 
-/// The graph of what inclusions ask, by the present sets of pointers. Beside the nodes of the rows it has two for each set.
-pub fn build(alloc: Global, inclusions: &[Inclusion], rows: &Rows) -> Result<Graph, AllocError>
+// The index that comes so many behind the first one, where the end is followed by the beginning.
+fn turned(first: usize, n: usize, count: usize) -> usize {
+    let i = first.saturating_add(n);
+    if i < count { i } else { i - count }
+}
+
+// So many edges for loads and stores are enough in one round.
+const ENOUGH: usize = 1_000_000;
+
+/// The graph of what inclusions ask, by the present sets of pointers. Beside the nodes of the rows it has two for each set. It
+/// has an edge for each copy; of the loads and stores, from the first one on, it has so many as are enough.
+pub fn build(
+    alloc: Global,
+    inclusions: &[Inclusion],
+    rows: &Rows,
+    first: usize,
+) -> Result<Graph, AllocError>
     ensures { IfOk result (λ g. AreDue inclusions.now rows.now g) }
 {
     let sets = rows.sets() + 1;
@@ -178,6 +193,13 @@ pub fn build(alloc: Global, inclusions: &[Inclusion], rows: &Rows) -> Result<Gra
     let mut stores = vec![in alloc; false; sets]?;
     for i in 0..inclusions.len() {
         push_copy(&mut graph, rows, inclusions, i)?;
+    }
+    let last = graph.len().saturating_add(ENOUGH);
+    for n in 0..inclusions.len() {
+        if graph.len() >= last {
+            break;
+        }
+        let i = turned(first, n, inclusions.len());
         push_loaded(&mut graph, rows, inclusions, i, &mut loads)?;
         push_stored(&mut graph, rows, inclusions, i, &mut stores)?;
     }

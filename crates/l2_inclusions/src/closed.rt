@@ -1,5 +1,5 @@
 // Whether rows are closed under inclusions.
-ghost use Rattle.std.specs.Prelude.{◌≡◌, ◌≤◌, ◌<◌, ℕ, true, length, IfOk};
+ghost use Rattle.std.specs.Prelude.{◌≡◌, ◌≤◌, ◌<◌, ℕ, true, length, IfOk, None};
 ghost use Rattle.std.specs.List.{All};
 ghost use Rattle.l2_inclusions.specs.Inclusions.{Keeps, IsClosed};
 ghost use Rattle.l2_inclusions.specs.Rows.{RowsValue, members_at, set_at};
@@ -139,15 +139,19 @@ fn keeps(rows: &Rows, pairs: &mut Vec<Pair>, inclusion: Inclusion) -> bool
     }
 }
 
-/// Whether the rows are closed under inclusions.
-pub fn is_closed(alloc: Global, inclusions: &[Inclusion], rows: &Rows) -> Result<bool, AllocError>
-    ensures { IfOk result (λ b. b ≡ true → IsClosed (set_at rows.now) inclusions.now) }
+/// The first inclusion that the rows don't keep, or None where they are closed.
+pub fn first_open(
+    alloc: Global,
+    inclusions: &[Inclusion],
+    rows: &Rows,
+) -> Result<Option<usize>, AllocError>
+    ensures { IfOk result (λ o. o ≡ None → IsClosed (set_at rows.now) inclusions.now) }
 {
     let mut pairs = no_pairs(alloc, PAIRS)?;
-    for inclusion in inclusions {
-        if !keeps(rows, &mut pairs, *inclusion) {
-            return Ok(false);
+    for i in 0..inclusions.len() {
+        if !keeps(rows, &mut pairs, inclusions[i]) {
+            return Ok(Some(i));
         }
     }
-    Ok(true)
+    Ok(None)
 }

@@ -99,6 +99,12 @@ impl Graph {
         })
     }
 
+    /// How many edges there are.
+    pub fn len(&self) -> usize {
+        self.edges.len()
+    }
+
+    /// One more edge.
     pub fn push(&mut self, from: usize, to: usize) -> Result<(), AllocError>
         ensures { OnOk result (self.new ≡ self.old ++ (record { from = from; to = to }) ∷ []) }
     {

@@ -5,7 +5,7 @@ ghost use Rattle.l2_inclusions.specs.Rows.{set_at};
 ghost use Rattle.l2_inclusions.specs.Closing.{AreForced};
 
 use crate::build::build;
-use crate::closed::is_closed;
+use crate::closed::first_open;
 use crate::inclusion::{Inclusion, object_node};
 use crate::rows::Rows;
 use crate::settle::settle;
@@ -32,12 +32,17 @@ fn take(
     Ok(())
 }
 
-// Lets members go as far as the present sets of pointers say.
-fn round(alloc: Global, inclusions: &[Inclusion], rows: &mut Rows) -> Result<(), AllocError>
+// Lets members go as far as the present sets of pointers say, for the loads and stores from the first one on.
+fn round(
+    alloc: Global,
+    inclusions: &[Inclusion],
+    first: usize,
+    rows: &mut Rows,
+) -> Result<(), AllocError>
     ensures { OnOk result (AreForced inclusions.now rows.old → AreForced inclusions.now rows.new) }
 {
     let nodes = rows.nodes();
-    let graph = build(alloc, inclusions, rows)?;
+    let graph = build(alloc, inclusions, rows, first)?;
     let sets = rows.sets();
     rows.extend(2 * sets + 2)?;
     settle(alloc, &graph, rows)?;
@@ -71,10 +76,10 @@ pub fn least(alloc: Global, inclusions: &[Inclusion]) -> Result<Rows, AllocError
         take(alloc, inclusions, i, &mut rows)?;
     }
     for _ in 0..usize::MAX {
-        if is_closed(alloc, inclusions, &rows)? {
-            return Ok(rows);
+        match first_open(alloc, inclusions, &rows)? {
+            Some(first) => round(alloc, inclusions, first, &mut rows)?,
+            None => return Ok(rows),
         }
-        round(alloc, inclusions, &mut rows)?;
     }
     Err(AllocError)
 }

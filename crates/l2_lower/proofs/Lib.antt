@@ -17,3 +17,6 @@ pub mod ExpressionTypes
 pub mod StatementTypes
 pub mod NeverStuck
 pub mod WellFormedCode
+pub mod SetsClosed
+pub mod SetsLeast
+pub mod PointsTo

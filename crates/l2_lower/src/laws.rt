@@ -8,7 +8,9 @@ ghost use Rattle.l2_program.specs.Programs.{ProgramTree};
 ghost use Rattle.l2_meaning.specs.Execution.{cells_of, exec, run_program};
 ghost use Rattle.l2_meaning.specs.Execution as meaning;
 ghost use Rattle.l2_meaning.specs.Lawful.{IsLawful, IsCheckOf};
+ghost use Rattle.l2_meaning.specs.Pointing.{AreClosed, ArePointsTo};
 ghost use Rattle.l2_code.specs.Modes.{types_of, first_store, run_code};
+ghost use Rattle.l2_code.specs.Sets.{Family, IsInside, IsClosed};
 ghost use Rattle.l2_code.specs.WellFormed.{IsWellFormed};
 ghost use Rattle.l2_lower.specs.Alike.{Agree, exec_code};
 ghost use Rattle.l2_lower.specs.Code.{code};
@@ -26,4 +28,11 @@ pub fn code_does_what_its_program_does()
 /// The code of a lawful program is well formed.
 pub fn code_is_well_formed()
     ensures { (p : ProgramTree) → IsLawful p → IsWellFormed (code p) }
+{}
+
+/// Sets of pointers that are closed over the code of a lawful program are, on its objects, closed over the program; the least
+/// ones are the program's points-to sets.
+pub fn code_has_the_sets_of_its_program()
+    ensures closed { (p : ProgramTree) → IsLawful p → (f : Family) → IsClosed (code p) f → AreClosed p f.object }
+    ensures least { (p : ProgramTree) → IsLawful p → (f : Family) → IsClosed (code p) f → ((g : Family) → IsClosed (code p) g → IsInside f g) → ArePointsTo p f.object }
 {}

@@ -1,5 +1,5 @@
 -- Each step of a walk reads names before its own.
-use Rattle.std.proofs.Common.{arith, ◌≡◌, ℕ, zero, suc, ◌+◌, ◌<◌, ◌≤◌, Bool, true, false, refl, sym, ap, ◌∙◌, subst, List, [], ◌∷◌, ◌++◌, Option, Some, None, cond}
+use Rattle.std.proofs.Common.{arith, ◌≡◌, ℕ, zero, suc, ◌<◌, ◌≤◌, Bool, true, false, refl, sym, ◌∙◌, subst, List, [], ◌∷◌, ◌++◌, cond}
 use Rattle.std.specs.Prelude.{slice_get, slice_set, slice_index_or, ◌==◌}
 use Rattle.l2_runs.specs.declared.cells.CellType.{CellType}
 use Rattle.l2_runs.specs.declared.cells.CellType.TheVariants.{Integer, Pointer}
@@ -17,6 +17,11 @@ use Rattle.l2_code.specs.declared.action.Action.{Action}
 use Rattle.l2_code.specs.declared.action.Action.TheVariants as action
 use Rattle.l2_code.specs.Sets.{may_be}
 use Rattle.l2_ssa.specs.Steps.{Step, IsBefore, AreBefore, FlagsBefore, operands_of, Reads, InOrder}
+use Rattle.l2_code.specs.Trees as code
+use Rattle.l2_code.specs.declared.code.CodeObject.{CodeObject}
+use Rattle.l2_runs.specs.declared.cells.CellValue.{CellValue}
+use Rattle.l2_ssa.specs.Law as law
+use Rattle.l2_ssa.specs.Steps as steps
 use Rattle.l2_ssa.specs.Walks as walks
 use Rattle.l2_ssa.specs.Walks.{Setting, Slot, Walk, Place, Frame, Block, Last, Early, Entry, Event, past, F, slot_at, or_no_slot, now, test_now, computation_now, compute_step, flags_of, read_steps, write_steps, read_at, write_at, zero_of, candidates, leave_steps, leave_path, with_cell, with_live}
 
@@ -195,7 +200,7 @@ test_before n w (test.Cells x a) h = (now_before n w a h, tt)
 test_before n w (test.Move by a b) h = (now_before n w a h, (now_before n w b h, tt))
 test_before n w (test.Same a b) h = (now_before n w a h, (now_before n w b h, tt))
 
-flag_first : (n o : ℕ) (b : Bool) (xs : List Slot) (rest : List Rattle.l2_ssa.specs.Steps.Flag) → SlotsBefore n xs → FlagsBefore n rest → FlagsBefore n ((cond b (record { object = o; live = (slot_at xs o).live } ∷ []) []) ++ rest)
+flag_first : (n o : ℕ) (b : Bool) (xs : List Slot) (rest : List steps.Flag) → SlotsBefore n xs → FlagsBefore n rest → FlagsBefore n ((cond b (record { object = o; live = (slot_at xs o).live } ∷ []) []) ++ rest)
 flag_first n o true xs rest h k = ((slot_before n xs o h).live, k)
 flag_first n o false xs rest h k = k
 
@@ -246,7 +251,7 @@ write_order : (a : Operand) (ty : CellType) (x : Operand) (ps : List Place) (n :
 write_order a ty x [] n w h k b = (tt, h)
 write_order a ty x (p ∷ ps) n w h k b =
     let r = write_order a ty x ps (suc n) (with_cell w p.object p.offset (Temp n)) (with_cell_before (suc n) w p.object p.offset (Temp n) (walk_up n (suc n) w (le_next n) h) (next_name n))
-            (before_up n (suc n) a (le_next n) k) (before_up n (suc n) x (le_next n) b) in
+    (before_up n (suc n) a (le_next n) k) (before_up n (suc n) x (le_next n) b) in
     (((h.path, k, b, cell_before n w.slots p.object p.offset h.slots), r.0), r.1)
 
 write_at_order : (g : Setting) (w : Walk) (ty : CellType) (a x : Operand) (n : ℕ) → WalkBefore n w → IsBefore n x → InOrder n (write_at g w ty a x n).steps × WalkBefore (past n (write_at g w ty a x n).steps) (write_at g w ty a x n).walk
@@ -288,9 +293,9 @@ unless_order fs d a n w hf ha h =
     let xs = leave_steps fs d (Temp n) (suc n) in
     let k = past (suc n) xs in
     let le = past_le (suc n) xs in
-    let e = sym (past_app (suc n) xs (Rattle.l2_ssa.specs.Steps.Both w.path a ∷ [])) in
+    let e = sym (past_app (suc n) xs (steps.Both w.path a ∷ [])) in
     record {
-      order = ((h.path, ha), order_app (suc n) xs (Rattle.l2_ssa.specs.Steps.Both w.path a ∷ []) r.0 ((before_up n k w.path (omega (arith, le)) h.path, before_up n k a (omega (arith, le)) ha), tt));
+      order = ((h.path, ha), order_app (suc n) xs (steps.Both w.path a ∷ []) r.0 ((before_up n k w.path (omega (arith, le)) h.path, before_up n k a (omega (arith, le)) ha), tt));
       after = subst (λ i. WalkBefore i (walks.with_path w (Temp k))) e (with_path_before (suc k) w (Temp k) (walk_up n (suc k) w (omega (arith, le)) h) (next_name k));
       entries = subst (λ i. EntriesBefore i (walks.on_unless fs d a n w).entries) e ((before_up k (suc k) (leave_path fs d (Temp n) (suc n)) (le_next k) r.1, slots_up n (suc k) w.slots (omega (arith, le)) h.slots), tt);
       events = tt;
@@ -384,14 +389,15 @@ module _ (g : Setting) where
       let n2 = past n1 fl in
       let l1 = past_le n cs in
       let l2 = past_le n1 fl in
-      let ei = Rattle.l2_ssa.specs.Steps.Either w.path e.path ∷ [] in
+      let ei = steps.Either w.path e.path ∷ [] in
       let s = slots_order g w.path e.path e.slots w.slots 1 n n1 (suc n2) h.path a x h.slots (omega (arith, l1, l2)) (omega (arith, l1, l2)) in
-      let ends : past n (cs ++ (fl ++ ei)) ≡ suc n2 = past_app n cs (fl ++ ei) ∙ past_app n1 fl ei in
-      (order_app n cs (fl ++ ei) s.0
-          (order_app n1 fl ei (flags_order g w.path e.path e.slots w.slots n1 (before_up n n1 w.path l1 h.path) (before_up n n1 e.path l1 a) (slots_up n n1 e.slots l1 x) (slots_up n n1 w.slots l1 h.slots))
-              ((before_up n n2 w.path (omega (arith, l1, l2)) h.path, before_up n n2 e.path (omega (arith, l1, l2)) a), tt)),
-       subst (λ i. WalkBefore i (walks.merge_if g zero e n w).walk) (sym ends)
-         (record { path = next_name n2; temps = λ i. before_up n (suc n2) (w.temps i) (omega (arith, l1, l2)) (h.temps i); slots = s.1 }))
+      let ends : past n (cs ++ (fl ++ ei)) ≡ suc n2 = past_app n cs (fl ++ ei) ∙ past_app n1 fl ei in (
+        order_app n cs (fl ++ ei) s.0
+            (order_app n1 fl ei (flags_order g w.path e.path e.slots w.slots n1 (before_up n n1 w.path l1 h.path) (before_up n n1 e.path l1 a) (slots_up n n1 e.slots l1 x) (slots_up n n1 w.slots l1 h.slots))
+            ((before_up n n2 w.path (omega (arith, l1, l2)) h.path, before_up n n2 e.path (omega (arith, l1, l2)) a), tt)),
+        subst (λ i. WalkBefore i (walks.merge_if g zero e n w).walk) (sym ends)
+            (record { path = next_name n2; temps = λ i. before_up n (suc n2) (w.temps i) (omega (arith, l1, l2)) (h.temps i); slots = s.1 }),
+      )
 
   merges_order : (es : List Entry) (n : ℕ) (w : Walk) → EntriesBefore n es → WalkBefore n w → InOrder n (walks.merge_all g es n w).steps × WalkBefore (past n (walks.merge_all g es n w).steps) (walks.merge_all g es n w).walk
   merges_order [] n w x h = (tt, h)
@@ -445,9 +451,19 @@ module _ (g : Setting) where
         let n6 = suc n5 in
         let n7 = suc n6 in
         record {
-          order = (hp, (before_up n n1 p (omega arith) hp, ((before_up n n2 p (omega arith) hp, omega arith, omega arith),
-              ((before_up n n3 p (omega arith) hp, before_up n n3 b (omega arith) hb, omega arith, cell_before n3 w.slots o f (slots_up n n3 w.slots (omega arith) h.slots)),
-              ((before_up n n4 p (omega arith) hp, omega arith, omega arith), ((before_up n n5 b (omega arith) hb, omega arith), ((before_up n n6 w.path (omega arith) h.path, omega arith), tt)))))));
+          order = (
+            hp,
+            (
+              before_up n n1 p (omega arith) hp,
+              (
+                (before_up n n2 p (omega arith) hp, omega arith, omega arith),
+                (
+                  (before_up n n3 p (omega arith) hp, before_up n n3 b (omega arith) hb, omega arith, cell_before n3 w.slots o f (slots_up n n3 w.slots (omega arith) h.slots)),
+                  ((before_up n n4 p (omega arith) hp, omega arith, omega arith), ((before_up n n5 b (omega arith) hb, omega arith), ((before_up n n6 w.path (omega arith) h.path, omega arith), tt))),
+                ),
+              ),
+            ),
+          );
           after = with_path_before n7 (with_cell w o f (Temp n3)) (Temp n6) (with_cell_before n7 w o f (Temp n3) (walk_up n n7 w (omega arith) h) (omega arith)) (omega arith);
           entries = tt;
           events = tt;
@@ -491,7 +507,7 @@ module _ (g : Setting) where
         let n3 = suc n2 in
         let n4 = suc n3 in
         let hw = with_path_before n4 w (Temp n3) (walk_up n n4 w (omega arith) h) (next_name n3) in
-        let first : walks.Out = record (walks.stepped (Rattle.l2_ssa.specs.Steps.Both w.path b ∷ Rattle.l2_ssa.specs.Steps.Row p l i (walks.vars_now w.slots (g.vars l)) ∷ Rattle.l2_ssa.specs.Steps.But (Temp n) (Temp n1) ∷ Rattle.l2_ssa.specs.Steps.Both w.path (Temp n1) ∷ []) (walks.with_path w (Temp n3))) { events = walks.event (walks.RowGoal l i) (Temp n2) } in
+        let first : walks.Out = record (walks.stepped (steps.Both w.path b ∷ steps.Row p l i (walks.vars_now w.slots (g.vars l)) ∷ steps.But (Temp n) (Temp n1) ∷ steps.Both w.path (Temp n1) ∷ []) (walks.with_path w (Temp n3))) { events = walks.event (walks.RowGoal l i) (Temp n2) } in
         joined_orders walks.nothing n first (walks.end_rows g p b l (suc i) more n4 (walks.with_path w (Temp n3)))
         (record {
           order = ((h.path, hb), ((before_up n n1 p (omega arith) hp, vars_before n1 w.slots (g.vars l) (slots_up n n1 w.slots (omega arith) h.slots)), ((omega arith, omega arith), ((before_up n n3 w.path (omega arith) h.path, omega arith), tt))));
@@ -566,8 +582,73 @@ module _ (g : Setting) where
         let cn = count_order last w.path b c n h.path hb hc in
         let hw = walk_up n n0 w l0 h in
         let ho = body_order (walks.copy_frame last b) d n0 (record w { temps = temps }) (frame_before last b n0 fs (before_up n n0 b l0 hb) (frames_up base n0 fs (omega (arith, le, l0)) frames)) cn.1
-                (record { path = hw.path; temps = λ i. before_up base n0 (temps i) (omega (arith, le, l0)) (ht i); slots = hw.slots }) in
+        (record { path = hw.path; temps = λ i. before_up base n0 (temps i) (omega (arith, le, l0)) (ht i); slots = hw.slots }) in
         let he = turn_order kind d l w.slots n1 o.after (before_up n0 n1 d l1 cn.1) (slots_up n n1 w.slots (omega (arith, l0, l1)) h.slots) ho.after in
         behind_order (w.path ∷ []) x n (walks.joined (walks.pair o.given rest.given) o (walks.joined walks.nothing et rest)) cn.0
         (joined_orders (walks.pair o.given rest.given) n0 o (walks.joined walks.nothing et rest) ho
-            (joined_orders walks.nothing n1 et rest he (copies_order kind b c temps k n2 et.after (omega (arith, le, l0, l1, l2)) ht (before_up n n2 b (omega (arith, l0, l1, l2)) hb) (before_up n n2 c (omega (arith, l0, l1, l2)) hc) he.after)))
+        (joined_orders walks.nothing n1 et rest he (copies_order kind b c temps k n2 et.after (omega (arith, le, l0, l1, l2)) ht (before_up n n2 b (omega (arith, l0, l1, l2)) hb) (before_up n n2 c (omega (arith, l0, l1, l2)) hc) he.after)))
+
+    loop_order : (kind : walks.Kind) (c : Operand) (w : Walk) → IsBefore base c → WalkBefore base w → Orders base (walks.walk_loop g kind body l c base w)
+    loop_order walks.Bottom c w hc h =
+        let x = copies_order walks.Bottom F c w.temps g.copies base w (omega arith) h.temps tt hc h in
+        record { order = x.order; after = x.after; entries = x.entries; events = x.events }
+    loop_order walks.Plain c w hc h =
+        let x = copies_order walks.Plain F c w.temps g.copies base w (omega arith) h.temps tt hc h in
+        record { order = x.order; after = x.after; entries = x.entries; events = x.events }
+    loop_order (walks.Rows r) c w hc h =
+        let b = suc base in
+        let s = walks.scatter g w.path (Temp base) (g.mods l) b w in
+        let n1 = past b s.steps in
+        let l1 = past_le b s.steps in
+        let hd = walks.head_rows g w.path (Temp base) l 1 r n1 s.after in
+        let n2 = past n1 hd.steps in
+        let l2 = past_le n1 hd.steps in
+        let cp = walks.walk_copies g body l (walks.Rows r) (Temp base) c w.temps g.copies n2 hd.walk in
+        let hs = scatter_orders w.path (Temp base) (g.mods l) b w (before_up base b w.path (le_next base) h.path) (next_name base) (walk_up base b w (le_next base) h) in
+        let hh = head_order w.path (Temp base) l 1 r n1 s.after (before_up base n1 w.path (omega (arith, l1)) h.path) (omega (arith, l1)) hs.after in
+        let hc' = copies_order (walks.Rows r) (Temp base) c w.temps g.copies n2 hd.walk (omega (arith, l1, l2)) h.temps (omega (arith, l1, l2)) (before_up base n2 c (omega (arith, l1, l2)) hc) hh.1 in
+        let x = behind_order [] s.steps b (walks.behind [] hd.steps cp) hs.order (behind_order [] hd.steps n1 cp hh.0 hc') in
+        record { order = (h.path, x.order); after = x.after; entries = x.entries; events = x.events }
+
+  -- ---- code
+
+  mutual
+    node_order : (x : code.Node) (fs : List Frame) (c : Operand) (n : ℕ) (w : Walk) → FramesBefore n fs → IsBefore n c → WalkBefore n w → Orders n (walks.walk_node g x fs c n w)
+    node_order (code.Do a) fs c n w hf hc h = act_order g fs c n w a hf hc h
+    node_order (code.Block all) fs c n w hf hc h =
+        label_order w.temps n (walks.walk g all (Block ∷ fs) c n w) h.temps (nodes_order all (Block ∷ fs) c n w hf hc h)
+    node_order (code.Loop l all) fs c n w hf hc h =
+        loop_order (λ f d k v. walks.walk g all (f ∷ fs) d k v) fs n hf (λ f d k v hf hd hv. nodes_order all (f ∷ fs) d k v hf hd hv) l (g.kind l) c w hc h
+
+    pub nodes_order : (xs : code.Nodes) (fs : List Frame) (c : Operand) (n : ℕ) (w : Walk) → FramesBefore n fs → IsBefore n c → WalkBefore n w → Orders n (walks.walk g xs fs c n w)
+    nodes_order code.none fs c n w hf hc h = record { order = tt; after = h; entries = tt; events = tt }
+    nodes_order (code.more x rest) fs c n w hf hc h =
+        let o = walks.walk_node g x fs c n w in
+        let k = past n o.steps in
+        let le = past_le n o.steps in
+        let ho = node_order x fs c n w hf hc h in
+        joined_orders _ n o (walks.walk g rest fs c k o.after) ho (nodes_order rest fs c k o.after (frames_up n k fs le hf) (before_up n k c le hc) ho.after)
+
+-- ---- the start
+
+constants_before : (n : ℕ) (vs : List CellValue) → AreBefore n (law.constants vs)
+constants_before n [] = tt
+constants_before n (v ∷ vs) = (tt, constants_before n vs)
+
+flag_before : (n : ℕ) (b : Bool) → IsBefore n (law.flag_of b)
+flag_before n true = tt
+flag_before n false = tt
+
+first_before : (n : ℕ) (os : List CodeObject) → SlotsBefore n (law.first_slots os)
+first_before n [] = tt
+first_before n (o ∷ os) = (record { cells = constants_before n o.start; live = flag_before n _ }, first_before n os)
+
+-- an event's name is one of the steps'
+events_known : (n : ℕ) (es : List Event) → EventsBefore n es → law.EventsKnown n es
+events_known n [] h = tt
+events_known n (e ∷ es) h = (h.0, events_known n es h.1)
+
+pub steps_in_order : law.StepsInOrder
+steps_in_order c f k kind =
+    let x = nodes_order (law.setting_of c f k kind) c.body [] walks.T 0 (law.first_walk c) tt tt (record { path = tt; temps = λ i. tt; slots = first_before 0 c.objects }) in
+    (x.order, events_known _ _ x.events)

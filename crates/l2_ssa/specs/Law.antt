@@ -12,14 +12,14 @@ use Rattle.l2_code.specs.Sets.{Family, IsResolved}
 use Rattle.l2_code.specs.Modes.{Cut, types_of, mods_of, limit_of, run_code, start}
 use Rattle.l2_code.specs.WellFormed.{IsWellFormed}
 use Rattle.l2_supply.specs.Supply.{Supply, left, right, number_of, IsFailure}
-use Rattle.l2_ssa.specs.Steps.{Names, on, bit, Solves}
+use Rattle.l2_ssa.specs.Steps.{Names, on, bit, Solves, IsBefore, InOrder}
 use Rattle.std.specs.Ordering.{int_eq}
 use Rattle.l2_bits.specs.Values.{wrap}
 use Rattle.l2_runs.specs.declared.cells.CellValue.{CellValue}
 use Rattle.l2_runs.specs.declared.cells.CellValue.TheVariants.{Number}
 use Rattle.l2_runs.specs.Store.{Store, cell_at}
 use Rattle.l2_runs.specs.Loops.{Test, Tests, bottom}
-use Rattle.l2_ssa.specs.Walks.{Setting, Kind, Bottom, Plain, Rows, Goal, RowGoal, RankGoal, CheckGoal, Given, nothing, entering, chosen, taken, half, pair, Slot, Walk, Event, Out, T, F, walk}
+use Rattle.l2_ssa.specs.Walks.{Setting, Kind, Bottom, Plain, Rows, Goal, RowGoal, RankGoal, CheckGoal, Given, nothing, entering, chosen, taken, half, pair, Slot, Walk, Event, Out, T, F, past, walk}
 
 -- what rows and rankings say of the values of a loop's variables
 abbrev pub RowsOf : Type 0
@@ -164,3 +164,11 @@ RunsSolve =
     → EndsAt x (run_code c (limit_of c f (Cut k (starts row (setting_of c f k kind)))) (tests row lower (setting_of c f k kind)) (start c choices turns))
     → (u : Supply) × ((s : Names) → Solves (record { types = types_of c; row = row; lower = lower }) s 0 (ssa c f k kind).steps → Matches s (ssa c f k kind).given u
     → HasEnd s (setting_of c f k kind) x (ssa c f k kind).events)
+
+abbrev pub EventsKnown : ℕ → List Event → Type 0
+EventsKnown n [] = Unit {0}
+EventsKnown n (e ∷ es) = IsBefore n e.literal × EventsKnown n es
+
+-- each equation reads constants and names before its own, and events name equations
+abbrev pub StepsInOrder : Type 0
+StepsInOrder = (c : CodeTree) (f : Family) (k : ℕ) (kind : ℕ → Kind) → InOrder 0 (ssa c f k kind).steps × EventsKnown (past 0 (ssa c f k kind).steps) (ssa c f k kind).events

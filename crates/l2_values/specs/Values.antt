@@ -126,11 +126,9 @@ assign how p Unknown y s = saw Unknown s
 assign how p (Value t e) y s = assigned how p t (ObjectAt 0) y (with_fault p LvalueRule s)
 assign how p (Located t c l) y s = assigned how p t l y (unless_const c p s)
 
-abbrev pub one : OperandTree
-one = Of (Integer Int) (Constant int_type (pos 1))
-
+-- the 1 is of the type in which is computed
 abbrev pub stepped_integer : Gives → ArithmeticOperator → Place → Scalar → Lvalue → State → Seen MeantTree
-stepped_integer g op p a l s = operated g op (promoted a) p a l (converted Int (promoted a) (Constant int_type (pos 1))) s
+stepped_integer g op p a l s = operated g op (promoted a) p a l (Constant (type_of_scalar (promoted a)) (pos 1)) s
 
 abbrev pub stepped : Gives → ArithmeticOperator → Place → MeantTree → State → Seen MeantTree
 stepped g op p Unknown s = saw Unknown s

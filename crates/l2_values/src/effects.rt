@@ -1,8 +1,7 @@
 // Assignments, casts and sizes.
 ghost use Rattle.std.specs.Prelude.{◌≡◌, pos, IfOk};
 ghost use Rattle.l2_types.specs.Trees.{typed_tree, Constant};
-ghost use Rattle.l2_bits.specs.Types.{int_type};
-ghost use Rattle.l2_syntax.specs.declared.token.Scalar.TheVariants.{Int};
+ghost use Rattle.l2_types.specs.Types.{type_of_scalar};
 ghost use Rattle.l2_types.specs.States.{saw};
 ghost use Rattle.l2_types.specs.Meant.{meant_tree, operand_tree, converted, type_of};
 ghost use Rattle.l2_values.specs.Values.{operated, assigned_integer, assigned, unless_const, assign, stepped_integer, stepped, cast, sized};
@@ -137,19 +136,11 @@ pub fn assign(
     }
 }
 
-/// 1, converted from `int`.
+/// 1, as a number of a type.
 fn one(alloc: Global, c: Scalar) -> Result<Box<Typed>, CheckError>
-    ensures ok { IfOk result (λ r. typed_tree r.value ≡ converted Int c (Constant int_type (pos 1))) }
+    ensures ok { IfOk result (λ r. typed_tree r.value ≡ Constant (type_of_scalar c) (pos 1)) }
 {
-    let number = constant(alloc, 1)?;
-    converted(alloc, Scalar::Int, c, number)
-}
-
-/// A number of type `int`.
-fn constant(alloc: Global, n: i128) -> Result<Box<Typed>, CheckError>
-    ensures ok { IfOk result (λ r. typed_tree r.value ≡ Constant int_type n) }
-{
-    Ok(Box::new(alloc, Typed::Constant(Ty::INT, n))?)
+    Ok(Box::new(alloc, Typed::Constant(type_of_scalar(c), 1))?)
 }
 
 fn stepped_integer(

@@ -17,9 +17,13 @@ fn value<'a>(matches: &ArgMatches<'a>, id: &str) -> Option<&'a str>
 fn number_between(least: u32, most: u32, text: &str) -> Option<u32>
     ensures { result ≡ number_between least most text.now }
 {
-    match text.parse::<u32>() {
-        Ok(number) if least <= number && number <= most => Some(number),
-        _ => None,
+    let Ok(number) = text.parse::<u32>() else {
+        return None;
+    };
+    if least <= number && number <= most {
+        Some(number)
+    } else {
+        None
     }
 }
 

@@ -1,6 +1,4 @@
-use Rattle.std.proofs.Common.{◌≡◌, ap}
 use Rattle.std.proofs.lemmas.Result.{IfOk-weaker}
-use Rattle.clap.specs.Words.{app_of, with_subcommand}
 use Rattle.l2_words.proofs.Plain.{third_of}
 use Rattle.l2_words.proofs.line.with.Goals as goal
 

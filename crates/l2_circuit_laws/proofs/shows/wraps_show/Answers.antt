@@ -1,0 +1,5 @@
+use Rattle.l2_circuit_laws.proofs.Choices as choices
+use Rattle.l2_circuit_laws.proofs.shows.wraps_show.Goals as goal
+
+pub returns : goal.returns
+returns c = choices.wraps_show
