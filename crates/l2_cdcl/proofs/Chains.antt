@@ -1,8 +1,7 @@
 -- The hints of a clause that is learnt: reasons in the trail's order, and then the clause of the conflict.
-use Rattle.std.proofs.Common.{◌≡◌, ◌≢◌, ◌⊎◌, inl, inr, ℕ, suc, zero, ◌+◌, ◌-◌, ◌<◌, ◌≤◌, List, ◌++◌, [], ◌∷◌, length, reverse, get_or, map, take, drop, refl, sym, ap, ◌∙◌, subst, arith, Bool}
+use Rattle.std.proofs.Common.{◌≡◌, ◌≢◌, ◌⊎◌, inl, inr, ℕ, ◌+◌, ◌-◌, ◌<◌, ◌≤◌, List, ◌++◌, [], ◌∷◌, length, reverse, get_or, map, refl, sym, ap, ◌∙◌, subst, arith, Bool}
 use Rattle.std.specs.Prelude.{ℤ, pos, nat_abs, neg_ℤ, Contains}
-use Rattle.std.proofs.lemmas.List.{reverse-append, drop_all, take_all}
-use Rattle.std.proofs.Math.Seq.{take-suc, drop-cons}
+use Rattle.std.proofs.lemmas.List.{reverse-append}
 use Rattle.std.proofs.lemmas.List.Elements.{Contains-append_left, Contains-push, Contains-push_cases}
 use lib.IntN.{neg_ℤ-neg_ℤ}
 use Rattle.l2_cnf.specs.Trail.{AreApart}
@@ -15,11 +14,11 @@ use Rattle.l2_watch.specs.Past.{IsReason}
 use Rattle.l2_watch.specs.Board.{Board, IsBoard}
 use Rattle.l2_cdcl.specs.Analysis.{AreUnmarked, IsFalseBefore, IsOpen, IsMore, HasVariable, IsLeft, IsPoint}
 use Rattle.l2_cdcl.specs.Chain.{Chain, IsLater}
-use Rattle.l2_cdcl.specs.Level.{IsPresent, IsRootConflict}
+use Rattle.l2_cdcl.specs.Level.{IsPresent}
 use Rattle.l2_cdcl.proofs.Analyses.{open_end, open_others, open_rest, open_left, cause_zero, cause_some}
-use Rattle.l2_cdcl.proofs.Targets.{part_false, false_part, later_false, point_over}
+use Rattle.l2_cdcl.proofs.Targets.{later_false, point_over}
 
-reverse-push : (numbers : List ℕ) (n : ℕ) → reverse (numbers ++ n ∷ []) ≡ n ∷ reverse numbers
+pub reverse-push : (numbers : List ℕ) (n : ℕ) → reverse (numbers ++ n ∷ []) ≡ n ∷ reverse numbers
 reverse-push numbers n = reverse-append numbers (n ∷ [])
 
 -- more literals are false, and more are resolved
@@ -108,45 +107,13 @@ chain_leads clauses trail low k aside u hints none apart within below at chain =
     ])
 
 -- what made a literal true where nothing was decided
-root_cause : (b : Board) (k : ℕ) → IsBoard b → b.levels ≡ [] → k < length b.past.literals → (get_or b.past.reasons k 0 ≢ 0) × (get_or b.past.reasons k 0 - 1 < length b.clauses) × (IsReason b.past.literals k (get_or b.clauses (get_or b.past.reasons k 0 - 1) []))
+pub root_cause : (b : Board) (k : ℕ) → IsBoard b → b.levels ≡ [] → k < length b.past.literals → (get_or b.past.reasons k 0 ≢ 0) × (get_or b.past.reasons k 0 - 1 < length b.clauses) × (IsReason b.past.literals k (get_or b.clauses (get_or b.past.reasons k 0 - 1) []))
 root_cause b k is none within =
     let reason : ℕ = get_or b.past.reasons k 0 in
     let cause = is.caused k within in
     let some : reason ≢ 0 = λ z. (let decided = cause_zero b.clauses b.past.literals b.levels k reason cause z in absurd (omega (arith, decided.1, ap length none))) in
     let told = cause_some b.clauses b.past.literals b.levels k reason cause some in
     (some, told.0, told.1)
-
--- a reason makes its literal true
-reason_unit : (trail : List ℤ) (k : ℕ) (reason : List ℤ) → AreApart trail → k < length trail → IsReason trail k reason → IsUnit (take k trail) reason (get_or trail k (pos 0))
-reason_unit trail k reason apart within is = record {
-  stands = is.stands;
-  unset = λ m h same. (let there = part_false trail k m (omega (arith, within)) h in apart there.0 k there.1 within (ap nat_abs there.2 ∙ same));
-  others = λ m c ne. false_part trail k m (omega (arith, within)) (is.others m c ne);
-}
-
--- the hints of the empty clause from one place of the trail on
-root_from : (b : Board) (conflict n k : ℕ) → IsBoard b → IsRootConflict b conflict → k + n ≡ length b.past.literals → Leads b.clauses (take k b.past.literals) (drop k b.past.reasons ++ (conflict + 1) ∷ [])
-root_from b conflict zero k is root e =
-    let all : take k b.past.literals ≡ b.past.literals = take_all k b.past.literals (omega (arith, e)) in
-    let none : drop k b.past.reasons ≡ [] = drop_all k b.past.reasons (omega (arith, e, is.count)) in
-    let at : conflict + 1 - 1 ≡ conflict = omega arith in
-    let here : get_or b.clauses conflict [] ≡ clause_of b.clauses (conflict + 1) = ap (λ i. get_or b.clauses i []) (sym at) in
-    rw (all, none) ((omega arith, omega (arith, root.within)), (λ m h. root.false_ones m (subst (λ x. Contains x m) (sym here) h)))
-root_from b conflict (suc n) k is root e =
-    let trail = b.past.literals in
-    let within : k < length trail = omega (arith, e) in
-    let reason : ℕ = get_or b.past.reasons k 0 in
-    let l : ℤ = get_or trail k (pos 0) in
-    let hints : List ℕ = drop (suc k) b.past.reasons ++ (conflict + 1) ∷ [] in
-    let rest : Leads b.clauses (take (suc k) trail) hints = root_from b conflict n (suc k) is root (omega (arith, e)) in
-    let cause = root_cause b k is root.levels within in
-    let split : drop k b.past.reasons ≡ reason ∷ drop (suc k) b.past.reasons = drop-cons b.past.reasons k 0 (omega (arith, within, is.count)) in
-    rw split (leads_before b.clauses (take k trail) reason hints l (omega (arith, cause.0), omega (arith, cause.0, cause.1)) (reason_unit trail k (get_or b.clauses (reason - 1) []) is.apart within cause.2)
-    (subst (λ t. Leads b.clauses t hints) (take-suc trail k (pos 0) within) rest))
-
--- the hints of the empty clause
-pub root_leads : (b : Board) (conflict : ℕ) (hints : List ℕ) → IsBoard b → IsRootConflict b conflict → hints ≡ b.past.reasons ++ (conflict + 1) ∷ [] → Leads b.clauses [] hints
-root_leads b conflict hints is root e = rw e (root_from b conflict (length b.past.literals) 0 is root (omega arith))
 
 -- a variable of the clauses is at most their greatest
 known_within : (n : ℕ) (clauses : List (List ℤ)) (v : ℕ) → AllWithin n clauses → HasVariable clauses v → v ≤ n

@@ -18,6 +18,7 @@ use Rattle.l2_cdcl.proofs.Learnings.{others-added, others-learnt, learnt-same, l
 pub IsEngine-same : (at : List ℕ) (b b' : Board) (marks marks' : List Bool) (refuted : Bool) (log : Logged) → IsEngine at b marks refuted log → b'.clauses ≡ b.clauses → (b'.ready ≡ true → b'.variables < length marks') → IsEngine at b' marks' refuted log
 IsEngine-same at b b' marks marks' refuted log is e room = record {
   within = rw e is.within;
+  parts = rw e is.parts;
   implied = rw e is.implied;
   found = rw e is.found;
   told = rw e is.told;
@@ -29,6 +30,7 @@ IsEngine-same at b b' marks marks' refuted log is e room = record {
 pub IsEngine-log : (at : List ℕ) (b : Board) (marks : List Bool) (refuted : Bool) (log log' : Logged) → IsEngine at b marks refuted log → log'.kept ≡ log.kept → (log.kept ≡ true → log'.steps ≡ log.steps) → IsEngine at b marks refuted log'
 IsEngine-log at b marks refuted log log' is e same = record {
   within = is.within;
+  parts = is.parts;
   implied = is.implied;
   found = is.found;
   told = is.told;
@@ -67,6 +69,7 @@ IsEngine-add at b b' marks refuted log clause is e idle none =
     let learnt : learnt_of at b'.clauses ≡ learnt_of at b.clauses = learnt_add at b.clauses b'.clauses clause is.within e in
     record {
       within = λ i h. omega (arith, is.within i h, ap length e, length_push b.clauses clause);
+      parts = omega (arith, is.parts, ap length added, length_push (added_of at b.clauses) clause, ap length e, length_push b.clauses clause);
       implied = λ v model.
           let all : Satisfies v (added_of at b.clauses ++ clause ∷ []) = subst (Satisfies v) added model in
           subst (Satisfies v) (sym e) (satisfies_more v b.clauses clause (is.implied v (satisfies_front v (added_of at b.clauses) clause all)) (satisfies_last v (added_of at b.clauses) clause all));
@@ -88,6 +91,7 @@ IsEngine-learn at at' b b' marks marks' refuted refuted' log log' clause hints n
         | inl old ↦ omega (arith, is.within i old, ap length g, length_push b.clauses clause)
         | inr s ↦ omega (arith, s, e, ap length g, length_push b.clauses clause)
       ];
+      parts = omega (arith, is.parts, ap length added, ap length f, length_push at n, ap length g, length_push b.clauses clause);
       implied = λ v model.
           let old : Satisfies v b.clauses = is.implied v (subst (Satisfies v) added model) in
           subst (Satisfies v) (sym g) (satisfies_more v b.clauses clause old (Follows-implied v b.clauses clause literals follows old));
@@ -113,6 +117,7 @@ IsEngine-none at b marks log e f idle none =
     let added : added_of at b.clauses ≡ [] = ap (added_of at) f in
     record {
       within = λ i h. absurd (omega (arith, h.1, ap length e));
+      parts = omega (arith, ap length added, ap length e, ap length f);
       implied = λ v model c h. absurd (omega (arith, h.1, ap length f));
       found = λ t. absurd (let z : false ≡ true = t in cc);
       told = λ h. absurd (omega (arith, h.1, ap length learnt));

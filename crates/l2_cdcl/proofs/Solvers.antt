@@ -1,12 +1,13 @@
 -- What a solver keeps: nothing is learnt after the empty clause, and of a log nothing was absorbed.
-use Rattle.std.proofs.Common.{◌≡◌, inl, inr, List, ◌++◌, [], ◌∷◌, length, refl, sym, ap, ◌∙◌, subst, arith, Bool, true, false, append_assoc}
+use Rattle.std.proofs.Common.{◌≡◌, inl, inr, ℕ, List, ◌++◌, [], ◌∷◌, length, refl, sym, ap, ◌∙◌, subst, arith, Bool, true, false, append_assoc}
 use Rattle.std.specs.Prelude.{ℤ, Option, None, Some, Contains}
 use Rattle.std.proofs.lemmas.List.{append-nil}
 use Rattle.std.proofs.lemmas.List.Elements.{Contains-append_right, Contains-push_cases}
-use Rattle.l2_cnf.specs.Logic.{IsAbsorbed}
+use Rattle.l2_cnf.specs.Logic.{Satisfies, IsAbsorbed}
 use Rattle.l2_cnf.specs.Steps.{Step, EndsEmpty}
 use Rattle.l2_cdcl.specs.Learning.{MayBeLearnt, AreLearnt, IsLearning}
 use Rattle.l2_cdcl.specs.Search.{Search}
+use Rattle.l2_cdcl.specs.Searched.{IsSearch}
 use Rattle.l2_cdcl.specs.Held.{Held, held_of, IsHeld, IsSolver}
 
 -- the empty clause absorbs every clause
@@ -34,17 +35,23 @@ learnt_ends added before (c ∷ clauses) all ends h =
       | inr s ↦ (before, ap (λ x. before ++ x ∷ []) s)
     ]) (subst (λ x. Contains x []) (sym e) h))
 
+-- what was learnt is implied
+pub search_implied : (s : Search) → IsSearch s → (v : ℕ → Bool) → Satisfies v s.added → Satisfies v s.learnt
+search_implied s is v model c h = is.implied v model c (is.inside c (Contains-append_right s.added s.learnt c h))
+
 -- after a question
-pub held_asked : (h g : Held) (assumptions : List ℤ) → IsHeld h → IsLearning assumptions h.added h.learnt g.learnt → g.added ≡ h.added → g.logged ≡ h.logged → g.asked ≡ true → IsHeld g
-held_asked h g assumptions is learning added logged asked = record {
+pub held_asked : (h g : Held) (assumptions : List ℤ) → IsHeld h → IsLearning assumptions h.added h.learnt g.learnt → ((v : ℕ → Bool) → Satisfies v g.added → Satisfies v g.learnt) → g.added ≡ h.added → g.logged ≡ h.logged → g.asked ≡ true → IsHeld g
+held_asked h g assumptions is learning implied added logged asked = record {
+  implied = implied;
   fresh = λ e. absurd (let t : true ≡ false = sym asked ∙ e in cc);
   ends = λ k. subst EndsEmpty (sym learning.learnt) (learnt_ends h.added h.learnt learning.more learning.all is.ends (subst (λ x. Contains x []) learning.learnt k));
   all = λ t. subst (λ x. AreLearnt x [] g.learnt) (sym added) (subst (AreLearnt h.added []) (sym learning.learnt) (AreLearnt-append h.added [] h.learnt learning.more (is.all (sym logged ∙ t)) learning.all));
 }
 
--- after a clause was added
-pub held_added : (h g : Held) → IsHeld h → g.learnt ≡ h.learnt → g.logged ≡ h.logged → g.asked ≡ h.asked → (h.logged ≡ true → h.asked ≡ false) → IsHeld g
-held_added h g is learnt logged asked allowed = record {
+-- after clauses were added
+pub held_added : (h g : Held) → IsHeld h → ((v : ℕ → Bool) → Satisfies v g.added → Satisfies v g.learnt) → g.learnt ≡ h.learnt → g.logged ≡ h.logged → g.asked ≡ h.asked → (h.logged ≡ true → h.asked ≡ false) → IsHeld g
+held_added h g is implied learnt logged asked allowed = record {
+  implied = implied;
   fresh = λ e. learnt ∙ is.fresh (sym asked ∙ e);
   ends = λ k. subst EndsEmpty (sym learnt) (is.ends (subst (λ x. Contains x []) learnt k));
   all = λ t. subst (AreLearnt g.added []) (sym (learnt ∙ is.fresh (allowed (sym logged ∙ t)))) tt;
@@ -53,6 +60,7 @@ held_added h g is learnt logged asked allowed = record {
 -- before anything was added or asked
 pub held_none : (h : Held) → h.learnt ≡ [] → IsHeld h
 held_none h none = record {
+  implied = λ v model c k. absurd (omega (arith, k.1, ap length none));
   fresh = λ e. none;
   ends = λ k. absurd (omega (arith, k.1, ap length none));
   all = λ t. subst (AreLearnt h.added []) (sym none) tt;

@@ -25,6 +25,7 @@ pub record Search : Type 0 where
 -- what a search keeps
 pub record IsEngine (at : List ℕ) (board : Board) (marks : List Bool) (refuted : Bool) (log : Logged) : Type 0 where
   pub within : (i : ℕ) → Contains at i → i < length board.clauses
+  pub parts : length (added_of at board.clauses) + length at ≡ length board.clauses
   pub implied : (v : ℕ → Bool) → Satisfies v (added_of at board.clauses) → Satisfies v board.clauses
   pub found : refuted ≡ true → Contains (learnt_of at board.clauses) []
   pub told : Contains (learnt_of at board.clauses) [] → refuted ≡ true

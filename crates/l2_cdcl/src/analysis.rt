@@ -6,8 +6,7 @@ ghost use Rattle.l2_watch.specs.Past.{IsReason};
 ghost use Rattle.l2_watch.specs.Board.{start_of, AreCaused};
 ghost use Rattle.l2_cdcl.specs.Analysis.{IsMarked, AreUnmarked, IsFalseBefore, IsOpen, IsAside, IsMore, IsTraced, IsLeft, IsPoint};
 ghost use Rattle.l2_cdcl.specs.Chain.{Chain, IsLater};
-ghost use Rattle.l2_cdcl.specs.Level.{IsPresent, IsRootConflict};
-ghost use Rattle.l2_cnf.specs.Steps.{Leads};
+ghost use Rattle.l2_cdcl.specs.Level.{IsPresent};
 
 use crate::hints::Hints;
 use crate::marks::Marks;
@@ -15,7 +14,7 @@ use l2_cnf::Lit;
 use l2_order::Order;
 use l2_watch::Watch;
 use smallvec::SmallVec;
-use std::alloc::{AllocError, Global};
+use std::alloc::AllocError;
 
 /// The literals that are put aside for the clause that is learnt.
 pub type Aside = SmallVec<Lit, 16>;
@@ -261,27 +260,4 @@ pub fn analyse(
             None => return Ok(traced.place),
         }
     }
-}
-
-/// The hints of the empty clause: what made each literal true, in order, and then the clause whose literals are all false.
-pub fn root_hints(
-    watch: &Watch,
-    kept: bool,
-    conflict: u64,
-    alloc: Global,
-) -> Result<Vec<u64>, AllocError>
-    requires { IsRootConflict watch.now conflict }
-    ensures { IfOk result (λ h. kept ≡ true → Leads watch.now.clauses [] h.items) }
-{
-    let mut hints = Vec::new(alloc);
-    if !kept {
-        return Ok(hints);
-    }
-    watch.facts();
-    let _count = watch.count();
-    for i in 0..watch.len() {
-        hints.push(watch.reason(i))?;
-    }
-    hints.push(conflict + 1)?;
-    Ok(hints)
 }

@@ -12,14 +12,15 @@ ghost use Rattle.l2_cdcl.specs.Log.{greatest_of};
 ghost use Rattle.l2_cdcl.specs.Search.{Search, AreAssumed, IsTurn, IsReady};
 ghost use Rattle.l2_cdcl.specs.Searched.{IsSearch, IsSearched, IsVerdict};
 
-use crate::analysis::{Aside, Bounds, analyse, root_hints};
+use crate::analysis::{Aside, Bounds, analyse};
 use crate::answer::Core;
 use crate::hints::Hints;
 use crate::log::Log;
 use crate::marks::Marks;
 use crate::model::assignment_of;
+use crate::root::root_hints;
 use crate::target::{Target, aim};
-use l2_cnf::{Assignment, Lines, Lit};
+use l2_cnf::{Assignment, ClauseList, Lines, Lit};
 use l2_order::Order;
 use l2_watch::{Watch, greatest};
 use std::alloc::{AllocError, Global};
@@ -90,7 +91,22 @@ impl Engine {
         ensures learnt { self.new.learnt ≡ self.old.learnt }
         ensures logged { self.new.logged ≡ self.old.logged }
     {
+        release_from(&self.watch, &mut self.order, 0);
         self.watch.add(clause)?;
+        Ok(())
+    }
+
+    /// Adds clauses. For want of memory it may have added the first of them alone.
+    pub fn add_list(&mut self, list: &ClauseList) -> Result<(), AllocError>
+        requires { self.old.logged ≡ true → self.old.learnt ≡ [] }
+        ensures ok { OnOk result (self.new.added ≡ self.old.added ++ list.now) }
+        ensures err { OnErr result ((n : ℕ) × (n ≤ length list.now) × (self.new.added ≡ self.old.added ++ take n list.now)) }
+        ensures learnt { self.new.learnt ≡ self.old.learnt }
+        ensures logged { self.new.logged ≡ self.old.logged }
+    {
+        for i in 0..list.len() {
+            self.add(list.clause(i))?;
+        }
         Ok(())
     }
 
@@ -116,6 +132,14 @@ impl Engine {
         Core::new(self.alloc, literals)
     }
 
+    /// The number of clauses added.
+    pub fn added_len(&self) -> u64
+        ensures len { result ≡ length self.now.added }
+        ensures small { result < 2 ^ 60 }
+    {
+        self.watch.count() - self.learnt_at.as_slice().len() as u64
+    }
+
     /// The number of clauses learnt.
     pub fn learnt_len(&self) -> u64
         ensures len { result ≡ length self.now.learnt }
@@ -137,6 +161,13 @@ impl Engine {
         ensures { result.now ≡ self.now.steps }
     {
         self.log.lines()
+    }
+
+    /// The log of what was learnt, of a search that is no longer needed.
+    pub fn into_log(self) -> Lines
+        ensures { result ≡ self.steps }
+    {
+        self.log.into_lines()
     }
 
     /// Whether the empty clause was learnt.
@@ -198,6 +229,7 @@ impl Engine {
             &[],
             &hints,
         )?;
+        release_from(&self.watch, &mut self.order, 0);
         if let Err(e) = self.watch.add(&[]) {
             forget(&mut self.learnt_at, &mut self.log);
             return Err(e);
@@ -217,6 +249,7 @@ impl Engine {
         ensures cases { IfOk result (λ o. MatchOption o (IsReady assumptions.now self.new) (λ r. IsRootConflict self.new.board r)) }
     {
         self.cover(assumptions)?;
+        release(&self.watch, &mut self.order, 0);
         self.watch.start()
     }
 
@@ -229,7 +262,9 @@ impl Engine {
         ensures over { OnOk result (AreOver self.new.board.variables assumptions.now) }
         ensures room { OnOk result (self.new.board.variables < self.new.marked) }
     {
-        self.watch.cover(greatest(assumptions))?;
+        let var = greatest(assumptions);
+        release_for(&self.watch, &mut self.order, var);
+        self.watch.cover(var)?;
         self.watch.facts();
         let variables = self.watch.variables();
         self.order.cover(variables)?;
@@ -397,12 +432,24 @@ fn low_of(watch: &Watch, logged: bool) -> usize
     if logged { 0 } else { watch.start_of(0) }
 }
 
-// Tells the order which literals are taken back.
-fn release(watch: &Watch, order: &mut Order, level: usize)
-    requires { level < length watch.now.levels }
-{
-    for i in watch.start_of(level)..watch.len() {
+// Tells the order that the literals from a place on are taken back.
+fn release_from(watch: &Watch, order: &mut Order, start: usize) {
+    for i in start..watch.len() {
         order.release(watch.literal(i));
+    }
+}
+
+// Tells the order which literals are taken back where the search goes to a level.
+fn release(watch: &Watch, order: &mut Order, level: usize) {
+    if level < watch.levels() {
+        release_from(watch, order, watch.start_of(level));
+    }
+}
+
+// Tells the order which literals are taken back where a variable is taken in.
+fn release_for(watch: &Watch, order: &mut Order, var: u64) {
+    if var > watch.variables() {
+        release_from(watch, order, 0);
     }
 }
 

@@ -8,6 +8,7 @@ mod hints;
 mod log;
 mod marks;
 mod model;
+mod root;
 mod solve;
 mod solver;
 mod target;

@@ -43,6 +43,12 @@ impl Log {
         &self.lines
     }
 
+    pub fn into_lines(self) -> Lines
+        ensures { result ≡ self.steps }
+    {
+        self.lines
+    }
+
     pub fn push(&mut self, number: u64, clause: &[Lit], hints: &[u64]) -> Result<(), AllocError>
         ensures kept { self.new.kept ≡ self.old.kept }
         ensures ok { OnOk result (self.old.kept ≡ true → self.new.steps ≡ self.old.steps ++ step_of number clause.now hints.now ∷ []) }

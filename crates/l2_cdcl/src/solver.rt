@@ -1,4 +1,5 @@
-ghost use Rattle.std.specs.Prelude.{◌≡◌, ◌++◌, ◌∷◌, ◌≤◌, ◌<◌, ◌^◌, [], ℕ, ℤ, Bool, true, false, Option, None, List, length, Contains, IfOk, OnOk, OnErr, slice_index_or};
+ghost use Rattle.std.specs.Prelude.{◌≡◌, ◌++◌, ◌∷◌, ◌≤◌, ◌<◌, ◌^◌, [], ℕ, ℤ, Bool, true, false, Option, None, List, length, take, Contains, IfOk, OnOk, OnErr, slice_index_or};
+ghost use Rattle.l2_cnf.specs.Logic.{Satisfies};
 ghost use Rattle.l2_cnf.specs.Steps.{EndsEmpty};
 ghost use Rattle.l2_cdcl.specs.Learning.{IsLearning, AreLearnt};
 ghost use Rattle.l2_cdcl.specs.Answering.{IsAnswer, IsClosed, truth_of};
@@ -8,7 +9,7 @@ ghost use Rattle.l2_cdcl.specs.Held.{Held, IsHeld};
 use crate::answer::Answer;
 use crate::engine::Engine;
 use crate::solve::answer;
-use l2_cnf::{Assignment, Lines, Lit};
+use l2_cnf::{Assignment, ClauseList, Lines, Lit};
 use std::alloc::{AllocError, Global};
 use std::marker::Model;
 
@@ -94,6 +95,23 @@ impl Solver {
     {
         let mut engine = self.take_engine()?;
         let added = engine.add(clause);
+        engine.facts();
+        self.engine = Some(engine);
+        added
+    }
+
+    /// Adds clauses, in order. What was learnt stays. For want of memory it may have added the first of them alone.
+    pub fn add_list(&mut self, list: &ClauseList) -> Result<(), AllocError>
+        requires { self.old.logged ≡ true → self.old.asked ≡ false }
+        ensures ok { OnOk result (self.new.added ≡ self.old.added ++ list.now) }
+        ensures err { OnErr result ((n : ℕ) × (n ≤ length list.now) × (self.new.added ≡ self.old.added ++ take n list.now)) }
+        ensures learnt { self.new.learnt ≡ self.old.learnt }
+        ensures logged { self.new.logged ≡ self.old.logged }
+        ensures asked { self.new.asked ≡ self.old.asked }
+    {
+        let mut engine = self.take_engine()?;
+        let added = engine.add_list(list);
+        engine.facts();
         self.engine = Some(engine);
         added
     }
@@ -105,6 +123,7 @@ impl Solver {
         ensures logged { self.new.logged ≡ self.old.logged }
         ensures asked { self.new.asked ≡ true }
         ensures learning { IsLearning assumptions.now self.old.added self.old.learnt self.new.learnt }
+        ensures implied { (v : ℕ → Bool) → Satisfies v self.old.added → Satisfies v self.new.learnt }
         ensures answer { IfOk result (λ a. IsAnswer assumptions.now self.old.added self.old.learnt self.new.learnt a) }
         ensures closed { IfOk result (λ a. IsClosed assumptions.now self.new.learnt a) }
         ensures ends { Contains self.new.learnt [] → EndsEmpty self.new.learnt }
@@ -112,6 +131,7 @@ impl Solver {
         self.asked = true;
         let mut engine = self.take_engine()?;
         let answered = answer(&mut engine, assumptions);
+        engine.facts();
         self.engine = Some(engine);
         answered
     }
@@ -134,12 +154,45 @@ impl Solver {
         }
     }
 
+    /// The log, as `log` has it, of a solver that is no longer needed.
+    pub fn into_log(self) -> Lines
+        requires { self.logged ≡ true }
+        ensures steps { result ≡ self.log }
+        ensures log { IsLog self.added self.learnt self.log }
+        ensures all { AreLearnt self.added [] self.learnt }
+        ensures ends { Contains self.learnt [] → EndsEmpty self.learnt }
+    {
+        let Solver {
+            engine,
+            no_lines,
+            ..
+        } = self;
+        match engine {
+            Some(engine) => {
+                engine.facts();
+                engine.into_log()
+            }
+            None => no_lines,
+        }
+    }
+
     /// The truth of a literal, if its variable has a value.
     pub fn value(&self, a: &Assignment, l: Lit) -> Option<bool>
         ensures { result ≡ truth_of a.now l }
     {
         let value = a.get(l.var())?;
         Some(if l.is_positive() { value } else { !value })
+    }
+
+    /// The number of clauses added.
+    pub fn added_len(&self) -> u64
+        ensures len { result ≡ length self.now.added }
+        ensures small { result < 2 ^ 60 }
+    {
+        match &self.engine {
+            Some(engine) => engine.added_len(),
+            None => 0,
+        }
     }
 
     /// The number of clauses learnt.

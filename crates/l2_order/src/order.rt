@@ -61,7 +61,7 @@ impl Order {
         }
     }
 
-    /// Takes in the variables up to this one, all of which may be decided.
+    /// Takes in the variables up to this one. Those that are new may be decided.
     pub fn cover(&mut self, variables: u64) -> Result<(), AllocError> {
         while self.phases.len() as u64 <= variables {
             self.phases.push(false)?;
@@ -80,7 +80,7 @@ impl Order {
         self.pace.count()
     }
 
-    /// A literal is about to be taken back.
+    /// A literal is about to be taken back: its variable may be decided again, with the value that it had.
     pub fn release(&mut self, literal: Lit) {
         let var = literal.var();
         if (var as usize) < self.phases.len() {

@@ -62,17 +62,6 @@ fn are_within(list: &ClauseList, variables: u64) -> bool
     true
 }
 
-/// Adds all clauses to a solver that wasn't asked yet.
-fn add_each(solver: &mut Solver, list: &ClauseList) -> Result<(), AllocError>
-    requires { solver.old.asked ≡ false }
-    ensures { solver.new.logged ≡ solver.old.logged }
-{
-    for i in 0..list.len() {
-        solver.add(list.clause(i))?;
-    }
-    Ok(())
-}
-
 /// How many literals the clauses of a log have.
 fn size_of(log: &Lines) -> u64 {
     let mut size = 0u64;
@@ -113,26 +102,53 @@ fn verdict(alloc: Global, list: &ClauseList, log: &Lines) -> Result<&'static str
     }
 }
 
-/// What a solver answers that keeps a log, and what the check of its log says.
-fn told(alloc: Global, solver: &mut Solver, list: &ClauseList) -> Result<String, AllocError>
-    requires { solver.old.logged ≡ true }
-{
-    let answer = ask(alloc, solver, &[])?;
-    let log = verdict(alloc, list, solver.log())?;
-    format!(in alloc; "{answer}, {log}")
-}
-
+/// A solver that keeps a log, with these clauses.
 fn filled(alloc: Global, list: &ClauseList) -> Result<Solver, AllocError>
     ensures { IfOk result (λ s. s.logged ≡ true) }
 {
     let mut solver = Solver::logged(alloc);
-    add_each(&mut solver, list)?;
+    solver.add_list(list)?;
     Ok(solver)
 }
 
-/// Five pigeons in four holes.
+/// Five pigeons in four holes: what is answered, and what the check of the log says.
 pub fn derived(alloc: Global) -> Result<String, AllocError> {
     let list = pigeons(alloc)?;
     let mut solver = filled(alloc, &list)?;
-    told(alloc, &mut solver, &list)
+    let answer = ask(alloc, &mut solver, &[])?;
+    let said = verdict(alloc, &list, solver.log())?;
+    format!(in alloc; "{answer}, {said}")
+}
+
+/// Thirteen clauses, three of which can't be met together: the others aren't needed.
+fn clash(alloc: Global) -> Result<ClauseList, AllocError> {
+    let mut list = ClauseList::new(alloc);
+    for other in 0..10u8 {
+        list.push(&[Lit::new(u64::from(other) + 3, true)])?;
+    }
+    list.push(&[Lit::new(1, true)])?;
+    list.push(&[Lit::new(1, false), Lit::new(2, true)])?;
+    list.push(&[Lit::new(2, false)])?;
+    Ok(list)
+}
+
+/// How many hints the last step of a log has.
+fn last_hints(log: &Lines) -> usize {
+    let steps = log.len();
+    if steps == 0 {
+        return 0;
+    }
+    log.hints(steps - 1).len()
+}
+
+/// How many clauses were added, what the check of the log says, and how many hints its last step has.
+pub fn clashed(alloc: Global) -> Result<String, AllocError> {
+    let list = clash(alloc)?;
+    let mut solver = filled(alloc, &list)?;
+    let answer = ask(alloc, &mut solver, &[])?;
+    let added = solver.added_len();
+    let log = solver.into_log();
+    let said = verdict(alloc, &list, &log)?;
+    let hints = last_hints(&log);
+    format!(in alloc; "{answer}, {added} clauses, {said}, {hints} hints")
 }

@@ -5,7 +5,7 @@ mod logged;
 
 ghost use Rattle.std.specs.Prelude.{◌≡◌, Bool, true, false, IfOk};
 
-use crate::logged::derived;
+use crate::logged::{clashed, derived};
 use l2_cdcl::{Answer, Solver};
 use l2_cnf::Lit;
 use std::alloc::{AllocError, Global};
@@ -172,6 +172,7 @@ fn assumed(rt: &HostRuntime, alloc: Global) -> bool {
             trial(alloc, &[-1, -2, 0], &[1]),
         )
         && report(rt, "five pigeons in four holes", derived(alloc))
+        && report(rt, "three clauses that clash", clashed(alloc))
         && report(rt, "a chain of two hundred", chain(alloc))
         && report(rt, "eight hundred clauses that can be met", planted(alloc))
 }

@@ -1,4 +1,4 @@
-use Rattle.std.proofs.Common.{◌≡◌, ◌≤◌, ◌-◌, length}
+use Rattle.std.proofs.Common.{◌≡◌, ◌-◌, length}
 use Rattle.l2_solver_trials.proofs.logged.holds.Given as goal
 
 abbrev pub invariant-loop-i : goal.invariant-loop-i

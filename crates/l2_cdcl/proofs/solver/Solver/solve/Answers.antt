@@ -1,9 +1,10 @@
-use Rattle.std.proofs.Common.{◌≡◌, ◌∙◌, List, [], refl, sym, ap, subst, true}
-use Rattle.std.specs.Prelude.{ℤ, Some}
+use Rattle.std.proofs.Common.{◌≡◌, ◌∙◌, ℕ, List, [], refl, sym, ap, subst, true}
+use Rattle.std.specs.Prelude.{ℤ, Bool, Some}
+use Rattle.l2_cnf.specs.Logic.{Satisfies}
 use Rattle.l2_cdcl.specs.Learning.{IsLearning}
 use Rattle.l2_cdcl.specs.Held.{Held, held_of, IsHeld}
 use Rattle.l2_cdcl.proofs.Models.{learning_none}
-use Rattle.l2_cdcl.proofs.Solvers.{held_asked, held_flags, held_clauses, put_back}
+use Rattle.l2_cdcl.proofs.Solvers.{held_asked, held_flags, held_clauses, put_back, search_implied}
 use Rattle.l2_cdcl.proofs.solver.Solver.solve.Goals as goal
 use Rattle.l2_cdcl.proofs.solver.Solver.solve.Goals.{After-answer-answered}
 
@@ -29,9 +30,9 @@ returns-clause-learning c =
     learning d c.args.self.now.added c.args.self.now.learnt (c.in_ok-engine.ensures.ok.0 ∙ same.0 ∙ ap (λ h. h.added) c.self.view_is) (c.in_ok-engine.ensures.ok.1 ∙ same.1 ∙ ap (λ h. h.learnt) c.self.view_is)
 
 -- what is held when it was answered
-held : (c : After-answer-answered) (after : Held) → after.learnt ≡ c.answer-answered.new.engine.learnt → after.added ≡ c.answer-answered.new.engine.added → after.logged ≡ (before c).logged → after.asked ≡ true → IsHeld after
-held c after learnt added logged asked =
-    held_asked (before c) after c.args.assumptions.now c.take_engine.ensures.held (subst (IsLearning c.args.assumptions.now (before c).added (before c).learnt) (sym learnt) (learning c (before c).added (before c).learnt c.in_ok-engine.ensures.ok.0 c.in_ok-engine.ensures.ok.1))
+held : (c : After-answer-answered) (after : Held) → ((v : ℕ → Bool) → Satisfies v after.added → Satisfies v after.learnt) → after.learnt ≡ c.answer-answered.new.engine.learnt → after.added ≡ c.answer-answered.new.engine.added → after.logged ≡ (before c).logged → after.asked ≡ true → IsHeld after
+held c after implied learnt added logged asked =
+    held_asked (before c) after c.args.assumptions.now c.take_engine.ensures.held (subst (IsLearning c.args.assumptions.now (before c).added (before c).learnt) (sym learnt) (learning c (before c).added (before c).learnt c.in_ok-engine.ensures.ok.0 c.in_ok-engine.ensures.ok.1)) implied
     (added ∙ c.answer-answered.ensures.added ∙ c.in_ok-engine.ensures.ok.0) logged asked
 
 pub invariant_of-self-2 : goal.invariant_of-self-2
@@ -44,10 +45,22 @@ invariant_of-self-2 c =
     let asked : in_it.asked ≡ true = sym flags.1 ∙ ap (λ h. h.asked) c.self-2.view_is ∙ c.take_engine.ensures.asked ∙ first.1 in
     let engine = c.answer-answered.new.engine in
     put_back in_it.logged in_it.asked engine in_it.no_lines c.self-2.invariant.empty (c.answer-answered.ensures.logged ∙ c.in_ok-engine.ensures.ok.2 ∙ sym logged)
-    (held d (held_of in_it.logged in_it.asked (Some engine) in_it.no_lines) refl refl logged asked)
+    (held d (held_of in_it.logged in_it.asked (Some engine) in_it.no_lines) (search_implied engine c.facts.ensures) refl refl logged asked)
 
 pub returns-clause-ends : goal.returns-clause-ends
 returns-clause-ends c =
     let d = (goal.at.returns-clause-ends c).After-answer-answered in
     let after : Held = record { added = c.answer-answered.new.engine.added; learnt = c.answer-answered.new.engine.learnt; logged = (before d).logged; asked = true; log = [] } in
-    (held d after refl refl refl refl).ends
+    (held d after (search_implied c.answer-answered.new.engine c.facts.ensures) refl refl refl refl).ends
+
+pub returns-in_err-engine-clause-implied : goal.returns-in_err-engine-clause-implied
+returns-in_err-engine-clause-implied c =
+    let in_it = c.self.inside in
+    let same = held_clauses in_it.logged in_it.asked in_it.engine in_it.no_lines in
+    λ v model. subst (Satisfies v) (sym (ap (λ h. h.learnt) c.in_err-engine.ensures.err)) (c.take_engine.ensures.held.implied v (subst (Satisfies v) (sym (same.0 ∙ ap (λ h. h.added) c.self.view_is)) model))
+
+pub returns-clause-implied : goal.returns-clause-implied
+returns-clause-implied c =
+    let in_it = c.self.inside in
+    let same = held_clauses in_it.logged in_it.asked in_it.engine in_it.no_lines in
+    λ v model. search_implied c.answer-answered.new.engine c.facts.ensures v (subst (Satisfies v) (sym (c.answer-answered.ensures.added ∙ c.in_ok-engine.ensures.ok.0 ∙ same.0 ∙ ap (λ h. h.added) c.self.view_is)) model)
