@@ -4,7 +4,7 @@ use Rattle.l2_outside.specs.Outside.{Files, Rose}
 use Rattle.l2_inputs.specs.Inputs.{Input, AreRead, HasFault, IsTooLong}
 use Rattle.l2_inputs.specs.declared.input.InputError.{InputError}
 use Rattle.l2_inputs.specs.declared.input.InputError.TheVariants as error
-use Rattle.l2_request.specs.declared.request.View.{View}
+use Rattle.l2_words.specs.declared.request.View.{View}
 use Rattle.l2_request.specs.Requests.{Request, Replay, Show, command, text, values_file, inputs}
 use Rattle.l2_answer.specs.declared.status.Answer.{Answer}
 use Rattle.l2_answer.specs.Replays.{Replays}

@@ -4,8 +4,8 @@ use Rattle.l2_runs.specs.declared.outcome.Outcome.{Outcome}
 use Rattle.l2_runs.specs.declared.outcome.Outcome.TheVariants.{Ended, Stopped, Broken, OutOfChoices, OutOfTurns}
 use Rattle.l2_code.specs.Trees.{CodeTree}
 use Rattle.l2_lower.specs.Code.{code}
-use Rattle.l2_request.specs.declared.request.View.{View}
-use Rattle.l2_request.specs.declared.request.View.TheVariants.{Goto, Loops}
+use Rattle.l2_words.specs.declared.request.View.{View}
+use Rattle.l2_words.specs.declared.request.View.TheVariants.{Goto, Loops}
 use Rattle.l2_request.specs.Requests.{Request, Replay, Show}
 use Rattle.l2_answer.specs.declared.status.Status.{Status}
 use Rattle.l2_answer.specs.declared.status.Status.TheVariants.{WriteFault, NoMemory}

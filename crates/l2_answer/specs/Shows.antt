@@ -7,8 +7,8 @@ use Rattle.l2_lower.specs.Output.{most_instructions}
 use Rattle.l2_lower.specs.Code.{code}
 use Rattle.l2_listing.specs.Texts.{listing}
 use Rattle.l2_show.specs.Loops.{loops_text}
-use Rattle.l2_request.specs.declared.request.View.{View}
-use Rattle.l2_request.specs.declared.request.View.TheVariants.{Goto, Loops}
+use Rattle.l2_words.specs.declared.request.View.{View}
+use Rattle.l2_words.specs.declared.request.View.TheVariants.{Goto, Loops}
 use Rattle.l2_answer.specs.declared.status.Status.{Status}
 use Rattle.l2_answer.specs.declared.status.Status.TheVariants.{Fine, Unknown}
 use Rattle.l2_answer.specs.Texts.{OfText}

@@ -1,6 +1,6 @@
 ghost use Rattle.std.specs.Prelude.{◌≡◌, ◌≤◌, IfOk, Some, List, ℕ, codes};
 ghost use Rattle.l2_outside.specs.Outside.{Rose};
-ghost use Rattle.l2_request.specs.Words.{texts};
+ghost use Rattle.l2_words.specs.Line.{texts};
 ghost use Rattle.l2_request.specs.Requests.{Replay, Show, command};
 ghost use Rattle.l2_answer.specs.Answers.{Answers, IsUnread};
 
@@ -9,7 +9,8 @@ use crate::show_answer::show_answer;
 use crate::status::{Answer, Status, fixed};
 use l2_inputs::{InputError, read_one, read_two};
 use l2_outside::Shelf;
-use l2_request::{Request, View, WordsError, command, text, values_file};
+use l2_request::{Request, command, text, values_file};
+use l2_words::{View, WordsError};
 use std::alloc::{AllocError, Global};
 
 /// The answer where a request's files were not read.

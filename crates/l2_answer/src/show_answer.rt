@@ -11,8 +11,8 @@ use l2_front::program_of;
 use l2_listing::listing;
 use l2_lower::{LowerError, lower};
 use l2_program::Program;
-use l2_request::View;
 use l2_show::loops_text;
+use l2_words::View;
 use std::alloc::{AllocError, Global};
 
 /// A program's code.

@@ -1,13 +1,11 @@
--- What words ask for, and the files that this reads.
-use Rattle.std.specs.Prelude.{ℕ, Option, None, Some, List, [], ◌∷◌, codes, option_map, if◌then◌else◌}
-use Rattle.std.specs.Str.{bytes_eq}
+-- What words ask for, of the commands that are built, and the files that this reads.
+use Rattle.std.specs.Prelude.{ℕ, true, false, Option, None, Some, List, [], ◌∷◌, option_and_then}
 use Rattle.l2_limits.specs.Limits.{text_limit, file_limit}
 use Rattle.l2_inputs.specs.Inputs.{Input}
+use Rattle.l2_words.specs.declared.request.View.{View}
+use Rattle.l2_words.specs.Requests as words
 use Rattle.l2_request.specs.declared.request.Request as rust
 use Rattle.l2_request.specs.declared.request.Request.TheVariants as variant
-use Rattle.l2_request.specs.declared.request.View.{View}
-use Rattle.l2_request.specs.declared.request.View.TheVariants.{Goto, Loops}
-use Rattle.l2_request.specs.Words.{operands}
 
 pub data Request : Type 0 where
   Replay : (file values : List ℕ) → Request
@@ -17,26 +15,19 @@ abbrev pub asked : rust.Request → Request
 asked (variant.Replay file values) = Replay file.now values.now
 asked (variant.Show view file) = Show view file.now
 
--- ---- what words ask for
-
--- the view of this name
-abbrev pub view_of : List ℕ → Option View
-view_of word =
-    if bytes_eq word (codes "goto") then Some Goto
-    else if bytes_eq word (codes "loops") then Some Loops
-    else None
-
--- what a command with these operands asks for: `replay FILE VALUES`, `show goto FILE` or `show loops FILE`
-abbrev pub request_of : List ℕ → Option (List (List ℕ)) → Option Request
-request_of name (Some (first ∷ second ∷ [])) =
-    if bytes_eq name (codes "replay") then Some (Replay first second)
-    else if bytes_eq name (codes "show") then option_map (λ view. Show view second) (view_of first)
-    else None
-request_of name operands = None
+-- the same request, where its command is built; checks of overflow aren't
+abbrev pub built : words.Request → Option Request
+built (words.Replay file values false) = Some (Replay file values)
+built (words.Replay file values true) = None
+built (words.Show view file false) = Some (Show view file)
+built (words.Show view file true) = None
+built (words.Verify d) = None
+built (words.Termination d) = None
+built (words.Check file certificate jobs) = None
+built (words.Generate seed loops) = None
 
 abbrev pub command : List (List ℕ) → Option Request
-command [] = None
-command (name ∷ words) = request_of name (operands words)
+command line = option_and_then built (words.command line)
 
 -- ---- the files that a request reads
 

@@ -1,8 +1,8 @@
-//! What the words behind the program's name ask for, and the files that this reads.
+//! What the words behind the program's name ask for, of the commands that are built, and the files that this reads.
 #![tactic(auto)]
 
+mod asking;
 mod request;
-mod words;
 
-pub use request::{Request, View, WordsError, text, values_file};
-pub use words::command;
+pub use asking::command;
+pub use request::{Request, text, values_file};

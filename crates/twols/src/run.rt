@@ -1,6 +1,6 @@
 ghost use Rattle.std.specs.Prelude.{◌≡◌, ◌≤◌};
 ghost use Rattle.l2_outside.specs.Outside.{Rose};
-ghost use Rattle.l2_request.specs.Words.{texts};
+ghost use Rattle.l2_words.specs.Line.{texts};
 ghost use Rattle.l2_answer.specs.Answers.{Prints};
 
 use l2_answer::{Status, answer, status_law};
