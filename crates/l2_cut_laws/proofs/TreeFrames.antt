@@ -143,7 +143,7 @@ module _ (cells : Layout) (sets : ℕ → Member → Bool) (tests : Tests) (is_m
 
   pub declare_opens : {D : ℕ → Type 0} (n : ℕ) → Changed n → Frames Changed D (Among (n ∷ [])) (declare here n)
   declare_opens {D} n h = fewer_frames Changed (λ m d. elim d [ inl a ↦ a | inr z ↦ absurd z ]) (λ m o. elim o [ inl a ↦ a | inr z ↦ absurd z ])
-      (then_opens Changed {D1 = D} {D2 = NoObject} (λ m z o. z) (enliven_frames Changed n (inl refl)) (λ u. fill_stay {D = NoObject} n 0 (cells n) h))
+      (then_opens Changed {DA = D} {DB = NoObject} (λ m z o. z) (enliven_frames Changed n (inl refl)) (λ u. fill_stay {D = NoObject} n 0 (cells n) h))
 
   rest_frames : {D O : ℕ → Type 0} (rest : Option ℕ → Run Ending) → ((from : Option ℕ) → Frames Changed D O (rest from)) → (e : Ending) → Frames Changed D O (or_rest rest e)
   rest_frames rest h Next = record { by = λ s d. (h None).by s d }
@@ -168,11 +168,11 @@ module _ (cells : Layout) (sets : ℕ → Member → Bool) (tests : Tests) (is_m
       act_frames (Declare n) h t = then_opened (declare_opens {D = Among (n ∷ [])} n (h n (inl refl)))
         where
           then_opened : {O D : ℕ → Type 0} {r : Run (Unit {0})} → Frames Changed D O r → Frames Changed D O (and_then r (λ u. done Next))
-          then_opened h = fewer_frames Changed (λ m d. elim d [ inl a ↦ a | inr z ↦ absurd z ]) (λ m o. elim o [ inl a ↦ a | inr z ↦ absurd z ]) (then_opens Changed {D2 = NoObject} {O2 = NoObject} (λ m z o. z) h (λ u. finished Next))
+          then_opened h = fewer_frames Changed (λ m d. elim d [ inl a ↦ a | inr z ↦ absurd z ]) (λ m o. elim o [ inl a ↦ a | inr z ↦ absurd z ]) (then_opens Changed {DB = NoObject} {OB = NoObject} (λ m z o. z) h (λ u. finished Next))
       act_frames (Static n) h t = finished Next
       act_frames (Initialise n e) h t =
           fewer_frames Changed (λ m d. elim d [ inl a ↦ a | inr z ↦ absurd z ]) (λ m o. elim o [ inl a ↦ a | inr z ↦ absurd z ])
-          (then_opens Changed {D1 = Among (n ∷ [])} {D2 = NoObject} {O1 = Among (n ∷ [])} {O2 = NoObject} (λ m z o. z) (enliven_frames Changed n (inl refl))
+          (then_opens Changed {DA = Among (n ∷ [])} {DB = NoObject} {OA = Among (n ∷ [])} {OB = NoObject} (λ m z o. z) (enliven_frames Changed n (inl refl))
           (λ u. on (value_stay {D = NoObject} e (λ m k. h m (inr k))) (λ v. on (write_cells_stay n 0 v (h n (inl refl))) (λ u. finished Next))))
       act_frames (Label n) h t = finished Next
       act_frames (Evaluate e) h t = on (value_stay e h) (λ v. finished Next)

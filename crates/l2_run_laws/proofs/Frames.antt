@@ -54,7 +54,7 @@ Dead Which st = (n : ℕ) → Which n → (object_at st n).live ≡ false
 pub frame_refl : (Changed Opened : ℕ → Type 0) (a : Store) → Frame Changed Opened a a
 frame_refl Changed Opened a = record { long = refl; wide = λ n. refl; same = λ n h. refl; live = λ n h. refl }
 
-pub frame_on : {Changed O1 O2 O : ℕ → Type 0} (a b c : Store) → ((n : ℕ) → O1 n → O n) → ((n : ℕ) → O2 n → O n) → Frame Changed O1 a b → Frame Changed O2 b c → Frame Changed O a c
+pub frame_on : {Changed OA OB O : ℕ → Type 0} (a b c : Store) → ((n : ℕ) → OA n → O n) → ((n : ℕ) → OB n → O n) → Frame Changed OA a b → Frame Changed OB b c → Frame Changed O a c
 frame_on a b c first second h k = record {
   long = h.long ∙ k.long;
   wide = λ n. h.wide n ∙ k.wide n;
@@ -78,17 +78,17 @@ module _ (Changed : ℕ → Type 0) where
   pub record Frames {A : Type 0} (D O : ℕ → Type 0) (r : Run A) : Type 0 where
     pub by : (s : State) → Dead D s.store → FramedAt O s.store (r s)
 
-  framed_on : {B : Type 0} {O1 O2 O : ℕ → Type 0} (a b : Store) (y : Result B) → ((n : ℕ) → O1 n → O n) → ((n : ℕ) → O2 n → O n) → Frame Changed O1 a b → FramedAt O2 b y → FramedAt O a y
+  framed_on : {B : Type 0} {OA OB O : ℕ → Type 0} (a b : Store) (y : Result B) → ((n : ℕ) → OA n → O n) → ((n : ℕ) → OB n → O n) → Frame Changed OA a b → FramedAt OB b y → FramedAt O a y
   framed_on a b (Go x r) first second h k = frame_on a b r.store first second h k
   framed_on a b (Halt e r) first second h k = tt
 
-  pub then_framed : {A B : Type 0} {D D2 O1 O2 O : ℕ → Type 0} (st : Store) (x : Result A) (f : A → Run B) → ((n : ℕ) → O1 n → O n) → ((n : ℕ) → O2 n → O n) → ((n : ℕ) → D2 n → D n) → ((n : ℕ) → D2 n → O1 n → ⊥) → Dead D st → FramedAt O1 st x → ((a : A) → Frames D2 O2 (f a)) → FramedAt O st (on_go x f)
+  pub then_framed : {A B : Type 0} {D DB OA OB O : ℕ → Type 0} (st : Store) (x : Result A) (f : A → Run B) → ((n : ℕ) → OA n → O n) → ((n : ℕ) → OB n → O n) → ((n : ℕ) → DB n → D n) → ((n : ℕ) → DB n → OA n → ⊥) → Dead D st → FramedAt OA st x → ((a : A) → Frames DB OB (f a)) → FramedAt O st (on_go x f)
   then_framed st (Go a s) f first second within apart dead h next =
       framed_on st s.store (f a s) first second h ((next a).by s (still_dead st s.store h apart (λ n d. dead n (within n d))))
   then_framed st (Halt e s) f first second within apart dead h next = tt
 
   -- one run, and then another that opens what is dead still
-  pub then_opens : {A B : Type 0} {D1 D2 O1 O2 : ℕ → Type 0} {r : Run A} {f : A → Run B} → ((n : ℕ) → D2 n → O1 n → ⊥) → Frames D1 O1 r → ((a : A) → Frames D2 O2 (f a)) → Frames (λ n. D1 n ⊎ D2 n) (λ n. O1 n ⊎ O2 n) (and_then r f)
+  pub then_opens : {A B : Type 0} {DA DB OA OB : ℕ → Type 0} {r : Run A} {f : A → Run B} → ((n : ℕ) → DB n → OA n → ⊥) → Frames DA OA r → ((a : A) → Frames DB OB (f a)) → Frames (λ n. DA n ⊎ DB n) (λ n. OA n ⊎ OB n) (and_then r f)
   then_opens {r = r} {f = f} apart h next = record {
     by = λ s dead. then_framed s.store (r s) f (λ n o. inl o) (λ n o. inr o) (λ n d. inr d) apart dead (h.by s (λ n d. dead n (inl d))) next;
   }
@@ -97,10 +97,10 @@ module _ (Changed : ℕ → Type 0) where
   pub then_frames : {A B : Type 0} {D O : ℕ → Type 0} {r : Run A} {f : A → Run B} → Frames D NoObject r → ((a : A) → Frames D O (f a)) → Frames D O (and_then r f)
   then_frames {r = r} {f = f} h next = record { by = λ s dead. then_framed s.store (r s) f (λ n o. absurd o) (λ n o. o) (λ n d. d) (λ n d o. o) dead (h.by s dead) next }
 
-  pub fewer_frames : {A : Type 0} {D D2 O O2 : ℕ → Type 0} {r : Run A} → ((n : ℕ) → D n → D2 n) → ((n : ℕ) → O n → O2 n) → Frames D O r → Frames D2 O2 r
-  fewer_frames {A = A} {O = O} {O2 = O2} {r = r} dead opened h = record { by = λ s d. wider s.store (r s) (h.by s (λ n x. d n (dead n x))) }
+  pub fewer_frames : {A : Type 0} {D DB O OB : ℕ → Type 0} {r : Run A} → ((n : ℕ) → D n → DB n) → ((n : ℕ) → O n → OB n) → Frames D O r → Frames DB OB r
+  fewer_frames {A = A} {O = O} {OB = OB} {r = r} dead opened h = record { by = λ s d. wider s.store (r s) (h.by s (λ n x. d n (dead n x))) }
     where
-      wider : (st : Store) (x : Result A) → FramedAt O st x → FramedAt O2 st x
+      wider : (st : Store) (x : Result A) → FramedAt O st x → FramedAt OB st x
       wider st (Go a s) f = record { long = f.long; wide = f.wide; same = f.same; live = λ n out. f.live n (λ o. out (opened n o)) }
       wider st (Halt e s) f = tt
 
