@@ -649,6 +649,6 @@ events_known n [] h = tt
 events_known n (e ∷ es) h = (h.0, events_known n es h.1)
 
 pub steps_in_order : law.StepsInOrder
-steps_in_order c f k kind =
-    let x = nodes_order (law.setting_of c f k kind) c.body [] walks.T 0 (law.first_walk c) tt tt (record { path = tt; temps = λ i. tt; slots = first_before 0 c.objects }) in
+steps_in_order c f k kind ranks =
+    let x = nodes_order (law.setting_of c f k kind ranks) c.body [] walks.T 0 (law.first_walk c) tt tt (record { path = tt; temps = λ i. tt; slots = first_before 0 c.objects }) in
     (x.order, events_known _ _ x.events)
