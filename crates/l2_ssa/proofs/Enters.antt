@@ -22,7 +22,7 @@ use Rattle.l2_supply.specs.Supply.{Supply, one, two, left, right, number_of, Pla
 use Rattle.l2_supply.specs.Going as going
 use Rattle.l2_supply.specs.Going.{Cut, any_with, cells_with, scatter_with, passing, back_with, tested_with, rounds_with, later_with, seen, loop_with, act_with, follow_with, node_with, nodes_with}
 use Rattle.l2_ssa.specs.Walks as walks
-use Rattle.l2_ssa.specs.Walks.{Setting, Walk, Frame, Given, nothing, entering, chosen, taken, half, pair, Kind, Bottom, Plain, Rows, past, is_last, copy_frame, count_steps, count_name, scatter_one, scatter_cells, scatter, head_rows, end_turn, walk_copies, walk_loop, walk_action, walk_node, walk}
+use Rattle.l2_ssa.specs.Walks.{Setting, Walk, Frame, Given, nothing, entering, chosen, taken, halves, pair, Kind, Bottom, Plain, Rows, past, is_last, copy_frame, count_steps, count_name, scatter_one, scatter_cells, scatter, head_rows, end_turn, walk_copies, walk_loop, walk_action, walk_node, walk}
 use Rattle.l2_ssa.specs.Law.{RowsOf, RanksOf, tests, starts, starts_of}
 use Rattle.l2_ssa.proofs.Copies.{counts, leaves, pass, turns, entry_turns, back_turns}
 
@@ -30,9 +30,9 @@ use Rattle.l2_ssa.proofs.Copies.{counts, leaves, pass, turns, entry_turns, back_
 abbrev pub enter : Given → Supply → Supply
 enter nothing u = u
 enter entering u = one (pos 0)
-enter (chosen n) u = u
-enter (taken n ty) u = u
-enter (half n) u = u
+enter (chosen g n) u = u
+enter (taken g n ty) u = u
+enter (halves g n) u = u
 enter (pair x y) u = two (enter x (left u)) (enter y (right u))
 
 abbrev pub Halted : {A : Type 0} → Come A → Type 0

@@ -144,7 +144,7 @@ module _ (c : CodeTree) (f : Family) (w : IsWellFormed c) (z : IsResolved c f) (
     solution_runs =
         reached (come u)
         (nodes_shows row lower s g (length c.checks) (length c.loops) (small_objects c w) there refl k0 refl (limits_hold c f w z (Cut (suc k0) (starts row g))) c.body [] walks.T 0 (first_walk c) no_temps p0 u empty_scope
-        w.typed z.closed.actions begins temps_hold stored ok (match_own s (ssa c f (suc k0) kind false).given (nodes_given m s g c.body [] walks.T 0 (first_walk c) ok))
+        w.typed z.closed.actions begins temps_hold stored ok (match_own s (types_of c).objects (ssa c f (suc k0) kind false).given (nodes_given m s g c.body [] walks.T 0 (first_walk c) ok))
         (not_stuck (come u) ((nodes_agree the_run true c.body no_temps).by_supply p0 u)))
         ((nodes_agree the_run true c.body no_temps).by_supply p0 u)
 
@@ -203,7 +203,7 @@ module _ (c : CodeTree) (f : Family) (w : IsWellFormed c) (z : IsResolved c f) (
   entered_is u p e (inl q) = sym q ∙ e
   entered_is u p e (inr h) = absurd (fail_goes_on x p fails (subst (λ (y : Come Way). Halted y) e h))
 
-  shown : (s : Names) (u : Supply) (p : Place) → comes u ≡ Ends x p → Solves (record { types = types_of c; row = row; lower = lower }) s 0 (ssa c f (suc k0) kind false).steps → Matches s (ssa c f (suc k0) kind false).given u → HasEnd s gg x (ssa c f (suc k0) kind false).events
+  shown : (s : Names) (u : Supply) (p : Place) → comes u ≡ Ends x p → Solves (record { types = types_of c; row = row; lower = lower }) s 0 (ssa c f (suc k0) kind false).steps → Matches (types_of c).objects s (ssa c f (suc k0) kind false).given u → HasEnd s gg x (ssa c f (suc k0) kind false).events
   shown s u p e ok mt =
       let sh = nodes_shows row lower s gg (length c.checks) (length c.loops) (small_objects c w) (there c f w z k0 kind row lower s) refl k0 refl (limits_hold c f w z (Cut (suc k0) (starts row gg))) c.body [] walks.T 0 (first_walk c) no_temps pp u empty_scope
       w.typed z.closed.actions (begins c f w z k0 kind row lower s) (temps_hold c f w z k0 kind row lower s) (stored c f w z k0 kind row lower s) ok mt
@@ -213,7 +213,7 @@ module _ (c : CodeTree) (f : Family) (w : IsWellFormed c) (z : IsResolved c f) (
       (subst (λ b. OneIf (record { types = types_of c; row = row; lower = lower }) s gg b x (ssa c f (suc k0) kind false).events) (fail_shown c f (suc k0) kind x fails) ends.events)
 
   solve : (choices : List ℤ) (turns : ℕ) → EndsAt x (run_code c (limit_of c f (Cut (suc k0) (starts row gg))) (tests row lower gg) (start c choices turns))
-      → (u : Supply) × ((s : Names) → Solves (record { types = types_of c; row = row; lower = lower }) s 0 (ssa c f (suc k0) kind false).steps → Matches s (ssa c f (suc k0) kind false).given u → HasEnd s gg x (ssa c f (suc k0) kind false).events)
+      → (u : Supply) × ((s : Names) → Solves (record { types = types_of c; row = row; lower = lower }) s 0 (ssa c f (suc k0) kind false).steps → Matches (types_of c).objects s (ssa c f (suc k0) kind false).given u → HasEnd s gg x (ssa c f (suc k0) kind false).events)
   solve choices turns e =
       let d = find (Rattle.l2_code.specs.Machine.nodes (machine_of rr) true c.body no_temps (start c choices turns)) ((nodes_agree rr true c.body no_temps).by_choices (start c choices turns)) e in
       let given = (ssa c f (suc k0) kind false).given in (

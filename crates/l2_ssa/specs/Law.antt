@@ -12,14 +12,16 @@ use Rattle.l2_code.specs.Sets.{Family, IsResolved}
 use Rattle.l2_code.specs.Modes.{Cut, types_of, mods_of, limit_of, run_code, start}
 use Rattle.l2_code.specs.WellFormed.{IsWellFormed}
 use Rattle.l2_supply.specs.Supply.{Supply, left, right, number_of, IsFailure}
-use Rattle.l2_ssa.specs.Steps.{Names, on, bit, Solves, IsBefore, InOrder}
+use Rattle.l2_runs.specs.Fits.{Layout}
+use Rattle.l2_runs.specs.Back.{pointer_of}
+use Rattle.l2_ssa.specs.Steps.{Names, on, bit, number_in, Solves, IsBefore, InOrder}
 use Rattle.std.specs.Ordering.{int_eq}
 use Rattle.l2_bits.specs.Values.{wrap}
 use Rattle.l2_runs.specs.declared.cells.CellValue.{CellValue}
 use Rattle.l2_runs.specs.declared.cells.CellValue.TheVariants.{Number}
 use Rattle.l2_runs.specs.Store.{Store, cell_at}
 use Rattle.l2_runs.specs.Loops.{Test, Tests, bottom}
-use Rattle.l2_ssa.specs.Walks.{Setting, Kind, Bottom, Plain, Rows, Goal, RowGoal, RankGoal, CheckGoal, Given, nothing, entering, chosen, taken, half, pair, Slot, Walk, Event, Out, T, F, past, walk}
+use Rattle.l2_ssa.specs.Walks.{Setting, Kind, Bottom, Plain, Rows, Goal, RowGoal, RankGoal, CheckGoal, Given, nothing, entering, chosen, taken, halves, pair, Slot, Walk, Event, Out, T, F, past, walk}
 
 -- what rows and rankings say of the values of a loop's variables
 abbrev pub RowsOf : Type 0
@@ -69,14 +71,15 @@ starts row g l store = starts_of row g (g.kind l) l store
 
 -- ---- the names that choices give
 
--- the names are those that a supply gives
-abbrev pub Matches : Names → Given → Supply → Type 0
-Matches s nothing u = Unit {0}
-Matches s entering u = int_eq (number_of u) (pos 0) ≡ true
-Matches s (chosen n) u = s n ≡ bit (not (int_eq (number_of u) (pos 0)))
-Matches s (taken n ty) u = s n ≡ Number (wrap ty (number_of u))
-Matches s (half n) u = s n ≡ Number (number_of u)
-Matches s (pair x y) u = Matches s x (left u) × Matches s y (right u)
+-- where their paths are true, the names are those that a supply gives, or give the pointer that it gives
+abbrev pub Matches : Layout → Names → Given → Supply → Type 0
+Matches cells s nothing u = Unit {0}
+Matches cells s entering u = int_eq (number_of u) (pos 0) ≡ true
+Matches cells s (chosen g n) u = on s g ≡ true → s n ≡ bit (not (int_eq (number_of u) (pos 0)))
+Matches cells s (taken g n ty) u = on s g ≡ true → s n ≡ Number (wrap ty (number_of u))
+Matches cells s (halves g n) u =
+    on s g ≡ true → pointer_of cells (number_in (s n)) (number_in (s (suc n))) ≡ pointer_of cells (number_of (left u)) (number_of (left (right u)))
+Matches cells s (pair x y) u = Matches cells s x (left u) × Matches cells s y (right u)
 
 -- ---- a code and its equations
 
@@ -162,7 +165,7 @@ RunsSolve =
     (c : CodeTree) (f : Family) → IsWellFormed c → IsResolved c f → (k : ℕ) → 1 ≤ k → (kind : ℕ → Kind) → ((l : ℕ) → kind l ≡ Plain → ⊥) → (row : RowsOf) (lower : RanksOf)
     → (choices : List ℤ) (turns : ℕ) (x : End) → IsFailure x
     → EndsAt x (run_code c (limit_of c f (Cut k (starts row (setting_of c f k kind false)))) (tests row lower (setting_of c f k kind false)) (start c choices turns))
-    → (u : Supply) × ((s : Names) → Solves (record { types = types_of c; row = row; lower = lower }) s 0 (ssa c f k kind false).steps → Matches s (ssa c f k kind false).given u
+    → (u : Supply) × ((s : Names) → Solves (record { types = types_of c; row = row; lower = lower }) s 0 (ssa c f k kind false).steps → Matches (types_of c).objects s (ssa c f k kind false).given u
     → HasEnd s (setting_of c f k kind false) x (ssa c f k kind false).events)
 
 abbrev pub EventsKnown : ℕ → List Event → Type 0
