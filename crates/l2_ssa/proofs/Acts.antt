@@ -143,7 +143,7 @@ module _ (row : ℕ → ℕ → List CellValue → Bool) (lower : ℕ → List C
         h path ∙ ap bit (ap (λ v. is_alive s v (flags_of (may_be g.family a) w.slots 1 g.objects)) (operand_now a) ∙ alive_is a (operand_value t a) (operand_constant Pointer a k) (held_set a))
     test_value n (test.Cells x a) k h = plain n (Passes (test.Cells x a)) (λ i. Some (bit (values.has_cells g.types.objects (g.types.pointed x) (operand_now a i)))) (looks_at a) h
     test_value n (test.Move by a b) k h = plain n (Passes (test.Move by a b)) (λ i. Some (bit (values.is_some (moved g.types.objects by (operand_now a i) (operand_now b i))))) (looks_at a) h
-    test_value n (test.Same a b) k h = plain n (Passes (test.Same a b)) (λ i. Some (bit (values.same_object (operand_now a i) (operand_now b i)))) tt h
+    test_value n (test.Same a b) k h = plain n (Passes (test.Same a b)) (λ i. Some (bit (values.same_object (operand_now a i) (operand_now b i)))) (looks_at a) h
 
     pub step_value : (n : ℕ) (c : Computation) → IsTypedComputation names scope c → Holds meaning s n (compute_step g w c) → IfSome (compute g.types st t c) (λ v. s n ≡ v)
     step_value n (Numbers op ty a b) k h = plain n (Numbers op ty a b) (λ i. on_numbers (operate op ty) (operand_now a i) (operand_now b i)) tt h

@@ -109,7 +109,7 @@ module _ (m : Meaning) (s : Names) (g : Setting) (types : m.types ≡ g.types) (
 
   module _ (l : ℕ) (body : Frame → Operand → ℕ → Walk → walks.Out) (turn : Bool → Supplied Way) (fs : List Frame) (temps : ℕ → Operand) (t : Temps) (same : (i : ℕ) → operand_value s (temps i) ≡ t i)
       (Inv : Store → Type 0)
-      (body_shows : (f : Frame) (d : Operand) (n : ℕ) (w : Walk) (p : Place) (u : Supply) → Begins m s g w (Standing t p) → Inv p.store → Solves m s n (body f d n w).steps → Matches s (body f d n w).given u
+      (body_shows : (f : Frame) (d : Operand) (n : ℕ) (w : Walk) (p : Place) (u : Supply) → Begins m s g w (Standing t p) → Inv p.store → Solves m s n (body f d n w).steps → Matches g.types.objects s (body f d n w).given u
       → NotStuck (turn (on s d) u p) → Show (body f d n w) (allow (outs_of s (f ∷ fs)) (turn (on s d) u p)))
       (body_stops : (f : Frame) (d : Operand) (n : ℕ) (w : Walk) → Stand w.path w.slots Off → Solves m s n (body f d n w).steps → Stop (body f d n w))
       (body_holds : (c : Bool) (u : Supply) (p : Place) → Inv p.store → ComeHolds Inv (turn c u p)) where
@@ -190,7 +190,7 @@ module _ (m : Meaning) (s : Names) (g : Setting) (types : m.types ≡ g.types) (
 
       module _ (z : Bool) (back : z ≡ on s b) where
         pub copies_show : (k n : ℕ) (w : Walk) (p : Place) (u : Supply) → Stand w.path w.slots (At p.store) → Inv p.store → Solves m s n (walk_copies g body l (g.kind l) b c temps k n w).steps
-            → Matches s (walk_copies g body l (g.kind l) b c temps k n w).given u → NotStuck (turns tested z (on s c) k u p)
+            → Matches g.types.objects s (walk_copies g body l (g.kind l) b c temps k n w).given u → NotStuck (turns tested z (on s c) k u p)
             → Show (walk_copies g body l (g.kind l) b c temps k n w) (allow (outs_of s fs) (way_of (turns tested z (on s c) k u p)))
         copies_show zero n w p u h inv ok mt ns = record { after = record { stands = (refl, h.1); temps = tt }; entries = tt; events = tt }
         copies_show (suc k) n w p u h inv ok mt ns =

@@ -3,6 +3,7 @@ use Rattle.std.proofs.Common.{◌≡◌, ℕ, zero, suc, ◌<◌, ℤ, pos, Bool
 use Rattle.std.specs.Ordering.{int_eq}
 use Rattle.l2_bits.specs.Values.{wrap, IsValue}
 use Rattle.l2_bits.proofs.Wraps.{wrap_of_value}
+use Rattle.l2_runs.specs.Fits.{Layout}
 use Rattle.l2_runs.specs.declared.cells.CellType.{CellType}
 use Rattle.l2_runs.specs.declared.cells.CellType.TheVariants.{Integer, Pointer}
 use Rattle.l2_runs.specs.declared.cells.CellValue.TheVariants.{Number}
@@ -16,7 +17,7 @@ use Rattle.l2_supply.specs.Supply.{Supply, nil, one, two}
 use Rattle.l2_ssa.specs.Steps.{Names, on, bit, number_in, Meaning, Solves}
 use Rattle.l2_ssa.specs.Law.{Matches}
 use Rattle.l2_ssa.specs.Walks as walks
-use Rattle.l2_ssa.specs.Walks.{Setting, Walk, Frame, Given, nothing, entering, chosen, taken, half, pair, Kind, Bottom, Plain, Rows, past, is_last, copy_frame, count_steps, count_name, scatter_one, scatter_cells, scatter, head_rows, end_turn, walk_copies, walk_loop, walk_action, walk_node, walk}
+use Rattle.l2_ssa.specs.Walks.{Setting, Walk, Frame, Given, nothing, entering, chosen, taken, halves, pair, Kind, Bottom, Plain, Rows, past, is_last, copy_frame, count_steps, count_name, scatter_one, scatter_cells, scatter, head_rows, end_turn, walk_copies, walk_loop, walk_action, walk_node, walk}
 use Rattle.l2_ssa.proofs.Shows.{solves_first, solves_second}
 use Rattle.l2_ssa.proofs.Labels.{bit_on}
 
@@ -25,30 +26,30 @@ module _ (s : Names) where
   abbrev pub AreGiven : Given → Type 0
   AreGiven nothing = Unit {0}
   AreGiven entering = Unit {0}
-  AreGiven (chosen n) = (b : Bool) × (s n ≡ bit b)
-  AreGiven (taken n ty) = (z : ℤ) × (s n ≡ Number z) × IsValue ty z
-  AreGiven (half n) = (k : ℕ) × (s n ≡ Number (pos k)) × (k < 131072)
+  AreGiven (chosen g n) = (b : Bool) × (s n ≡ bit b)
+  AreGiven (taken g n ty) = (z : ℤ) × (s n ≡ Number z) × IsValue ty z
+  AreGiven (halves g n) = ((k : ℕ) × (s n ≡ Number (pos k)) × (k < 131072)) × ((k : ℕ) × (s (suc n) ≡ Number (pos k)) × (k < 131072))
   AreGiven (pair x y) = AreGiven x × AreGiven y
 
   abbrev pub supply_of : Given → Supply
   supply_of nothing = nil
   supply_of entering = one (pos 0)
-  supply_of (chosen n) = one (cond (on s (Temp n)) (pos 1) (pos 0))
-  supply_of (taken n ty) = one (number_in (s n))
-  supply_of (half n) = one (number_in (s n))
+  supply_of (chosen g n) = one (cond (on s (Temp n)) (pos 1) (pos 0))
+  supply_of (taken g n ty) = one (number_in (s n))
+  supply_of (halves g n) = two (one (number_in (s n))) (two (one (number_in (s (suc n)))) nil)
   supply_of (pair x y) = two (supply_of x) (supply_of y)
 
   own_bit : (b : Bool) → bit b ≡ bit (not (int_eq (cond b (pos 1) (pos 0)) (pos 0)))
   own_bit true = refl
   own_bit false = refl
 
-  pub match_own : (x : Given) → AreGiven x → Matches s x (supply_of x)
-  match_own nothing h = tt
-  match_own entering h = refl
-  match_own (chosen n) h = h.1 ∙ own_bit h.0 ∙ ap (λ b. bit (not (int_eq (cond b (pos 1) (pos 0)) (pos 0)))) (sym (ap is_true h.1 ∙ bit_on h.0))
-  match_own (taken n ty) h = h.1 ∙ ap Number (sym (wrap_of_value ty h.0 h.2)) ∙ ap (λ v. Number (wrap ty (number_in v))) (sym h.1)
-  match_own (half n) h = h.1 ∙ ap (λ v. Number (number_in v)) (sym h.1)
-  match_own (pair x y) h = (match_own x h.0, match_own y h.1)
+  pub match_own : (cells : Layout) (x : Given) → AreGiven x → Matches cells s x (supply_of x)
+  match_own cells nothing h = tt
+  match_own cells entering h = refl
+  match_own cells (chosen g n) h = λ path. h.1 ∙ own_bit h.0 ∙ ap (λ b. bit (not (int_eq (cond b (pos 1) (pos 0)) (pos 0)))) (sym (ap is_true h.1 ∙ bit_on h.0))
+  match_own cells (taken g n ty) h = λ path. h.1 ∙ ap Number (sym (wrap_of_value ty h.0 h.2)) ∙ ap (λ v. Number (wrap ty (number_in v))) (sym h.1)
+  match_own cells (halves g n) h = λ path. refl
+  match_own cells (pair x y) h = (match_own cells x h.0, match_own cells y h.1)
 
 module _ (m : Meaning) (s : Names) (g : Setting) where
   check_given : (rk : Bool) (k : ℕ) (c a : Operand) (n : ℕ) (w : Walk) → AreGiven s (walks.on_check rk k c a n w).given
@@ -70,7 +71,7 @@ module _ (m : Meaning) (s : Names) (g : Setting) where
 
   one_given : (p b : Operand) (o f : ℕ) (t : CellType) (n : ℕ) (w : Walk) → Solves m s n (scatter_one g p b o f t n w).steps → AreGiven s (scatter_one g p b o f t n w).given
   one_given p b o f (Integer ty) n w ok = ok.0
-  one_given p b o f Pointer n w ok = (ok.0, (ok.1.0, tt))
+  one_given p b o f Pointer n w ok = (ok.0, ok.1.0)
 
   cells_given : (p b : Operand) (o f : ℕ) (ts : List CellType) (n : ℕ) (w : Walk) → Solves m s n (scatter_cells g p b o f ts n w).steps → AreGiven s (scatter_cells g p b o f ts n w).given
   cells_given p b o f [] n w ok = tt

@@ -13,7 +13,7 @@ use Rattle.l2_runs.specs.Runs.{Over, Fallen, done, stop, either, write}
 use Rattle.l2_runs.specs.Back.{pointer_of, on_member}
 use Rattle.l2_code.specs.declared.action.Operand.{Operand}
 use Rattle.l2_code.specs.declared.action.Operand.TheVariants.{Temp}
-use Rattle.l2_code.specs.Values.{operand_value, is_true}
+use Rattle.l2_code.specs.Values.{Types, operand_value, is_true}
 use Rattle.l2_supply.specs.Supply.{Supply, left, right, number_of, Place, at, Come, Goes, Ends, on_goes, then_with, come_of}
 use Rattle.l2_supply.specs.Going.{any_with, cells_with, scatter_with}
 use Rattle.l2_ssa.specs.Steps.{Row, Names, on, bit, Meaning, Holds, Solves, is_among, number_in, values_of}
@@ -128,10 +128,10 @@ module _ (m : Meaning) (s : Names) (g : Setting) (types : m.types ≡ g.types) w
         go true e = (y_is true e, sized_cell m s g w o f (Temp (suc (suc (suc n)))) h.1, cell_writes m s g w q.store o f (Temp (suc (suc (suc n)))) x h.2 (merge ∙ point))
         go false e = (y_is false e, sized_cell m s g w o f (Temp (suc (suc (suc n)))) h.1)
 
-    back_one : (o f : ℕ) (t : CellType) (n : ℕ) (w : Walk) (q : Place) (u v : Supply) → Stand w.path w.slots (At q.store) → Solves m s n (scatter_one g p b o f t n w).steps → Matches s (scatter_one g p b o f t n w).given u
+    back_one : (o f : ℕ) (t : CellType) (n : ℕ) (w : Walk) (q : Place) (u v : Supply) → Stand w.path w.slots (At q.store) → Solves m s n (scatter_one g p b o f t n w).steps → Matches g.types.objects s (scatter_one g p b o f t n w).given u
         → Lands (scatter_one g p b o f t n w).after.path (scatter_one g p b o f t n w).after.slots (one_with o f t u v q)
     back_one o f (Integer ty) n w q u v h ok mt =
-        (h.0, sized_cell m s g w o f (Temp (suc n)) h.1, cell_writes m s g w q.store o f (Temp (suc n)) (Number (wrap ty (number_of u))) h.2 (ok.1.0.0 back ∙ mt))
+        (h.0, sized_cell m s g w o f (Temp (suc n)) h.1, cell_writes m s g w q.store o f (Temp (suc n)) (Number (wrap ty (number_of u))) h.2 (ok.1.0.0 back ∙ mt guard))
     back_one o f Pointer n w q u v h ok mt =
         pointer_lands o f n w q (pointer_of g.types.objects (number_of (left u)) (number_of (left (right u)))) v h
         (subst (λ (x : Option CellValue). IfSome x (λ y. s (suc (suc n)) ≡ y)) pointer (ok.1.1.0 guard))
@@ -140,7 +140,7 @@ module _ (m : Meaning) (s : Names) (g : Setting) (types : m.types ≡ g.types) w
         ok.1.1.1.1.1.0 ok.1.1.1.1.1.1.0
       where
         pointer : pointer_of m.types.objects (number_in (s n)) (number_in (s (suc n))) ≡ pointer_of g.types.objects (number_of (left u)) (number_of (left (right u)))
-        pointer = λ i. pointer_of ((types i).objects) (number_in (mt.0 i)) (number_in (mt.1.0 i))
+        pointer = ap (λ (t : Types). pointer_of t.objects (number_in (s n)) (number_in (s (suc n)))) types ∙ mt guard
 
     -- where a cell has landed, and the others after it
     lands_then : (path : Operand) (slots : List Slot) (e : Come (Unit {0})) (f : Place → Come (Unit {0})) (path' : Operand) (slots' : List Slot)
@@ -157,7 +157,7 @@ module _ (m : Meaning) (s : Names) (g : Setting) (types : m.types ≡ g.types) w
     regroup (Goes a q) f k = refl
     regroup (Ends x q) f k = refl
 
-    back_cells : (o f : ℕ) (ts : List CellType) (n : ℕ) (w : Walk) (q : Place) (u : Supply) → Stand w.path w.slots (At q.store) → Solves m s n (scatter_cells g p b o f ts n w).steps → Matches s (scatter_cells g p b o f ts n w).given u
+    back_cells : (o f : ℕ) (ts : List CellType) (n : ℕ) (w : Walk) (q : Place) (u : Supply) → Stand w.path w.slots (At q.store) → Solves m s n (scatter_cells g p b o f ts n w).steps → Matches g.types.objects s (scatter_cells g p b o f ts n w).given u
         → Lands (scatter_cells g p b o f ts n w).after.path (scatter_cells g p b o f ts n w).after.slots (cells_with g.types.objects (g.family.object o) o f ts u q)
     back_cells o f [] n w q u h ok mt = h
     back_cells o f (t ∷ ts) n w q u h ok mt =
@@ -171,7 +171,7 @@ module _ (m : Meaning) (s : Names) (g : Setting) (types : m.types ≡ g.types) w
         (λ q k. back_cells o (suc f) ts (past n x.steps) x.after q (right (right u)) k ok2 mt.1.1)
         (λ k. off_cells p b o (suc f) ts (past n x.steps) x.after k ok2))
 
-    pub back_all : (os : List ℕ) (n : ℕ) (w : Walk) (q : Place) (u : Supply) → Stand w.path w.slots (At q.store) → Solves m s n (scatter g p b os n w).steps → Matches s (scatter g p b os n w).given u
+    pub back_all : (os : List ℕ) (n : ℕ) (w : Walk) (q : Place) (u : Supply) → Stand w.path w.slots (At q.store) → Solves m s n (scatter g p b os n w).steps → Matches g.types.objects s (scatter g p b os n w).given u
         → Lands (scatter g p b os n w).after.path (scatter g p b os n w).after.slots (scatter_with g.types.objects g.family.object os u q)
     back_all [] n w q u h ok mt = h
     back_all (o ∷ os) n w q u h ok mt =

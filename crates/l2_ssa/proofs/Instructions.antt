@@ -271,13 +271,13 @@ module _ (row : ℕ → ℕ → List CellValue → Bool) (lower : ℕ → List C
     -- ---- all instructions
 
     pub act_shows : (a : Action) (u : Supply) → IsTypedAction (names row lower s g checks loops small there) scope a → IsClosedAction g.family a → Solves m s n (walk_action g fs c n w a).steps
-        → Matches s (walk_action g fs c n w a).given u → NotStuck (act_with run (on s c) a t u p) → Show (walk_action g fs c n w a) (out (act_with run (on s c) a t u p))
+        → Matches g.types.objects s (walk_action g fs c n w a).given u → NotStuck (act_with run (on s c) a t u p) → Show (walk_action g fs c n w a) (out (act_with run (on s c) a t u p))
     act_shows (action.Compute i x) u k z ok mt ns =
         compute_case i (compute_step g w x ∷ []) (compute g.types p.store t x) (step_value row lower s g checks loops small there w t p.store scope held h.stands.0 h.temps h.stands.2 n x k ok.0) ns
     act_shows (action.Read i ty a) u k z ok mt ns = read_case i ty a (cell_of g.types.objects ty (operand_value t a)) (found g.types.objects ty (operand_value t a)) ok ns
     act_shows (action.Write ty a x) u k z ok mt ns = write_case ty a x (cell_of g.types.objects ty (operand_value t a)) (found g.types.objects ty (operand_value t a)) ok ns
     act_shows (action.Choice i ty) u k z ok mt ns =
-        goes_show _ _ (walks.with_temp w i (Temp n)) (values.with_temp t i (Number (wrap ty (number_of u)))) p h.stands (temp_shows w t p i (Temp n) (Number (wrap ty (number_of u))) h.temps mt)
+        goes_show _ _ (walks.with_temp w i (Temp n)) (values.with_temp t i (Number (wrap ty (number_of u)))) p h.stands (temp_shows w t p i (Temp n) (Number (wrap ty (number_of u))) h.temps (mt h.stands.0))
     act_shows (action.Assume a) u k z ok mt ns = assume_case a (is_true (operand_value t a)) refl ok
     act_shows (action.Check i a) u k z ok mt ns = check_any g.ranks i a refl k.0.0 ok
     act_shows (action.Unless a d) u k z ok mt ns = unless_case a d (is_true (operand_value t a)) refl ok

@@ -1,24 +1,61 @@
 -- What a solution shows behind a label.
-use Rattle.std.proofs.Common.{arith, ◌≡◌, inl, inr, ℕ, zero, suc, Bool, true, false, refl, ap, ◌∙◌, List, [], ◌∷◌}
+use Rattle.std.proofs.Common.{arith, ◌≡◌, inl, inr, ℕ, zero, suc, ℤ, Bool, true, false, refl, ap, ◌∙◌, List, [], ◌∷◌, ◌++◌}
+use Rattle.std.specs.Ordering.{int_eq}
+use Rattle.std.proofs.lemmas.Int.{ints}
 use Rattle.std.specs.Prelude.{◌||◌}
 use Rattle.l2_bits.specs.Types.{bool_type}
 use Rattle.l2_runs.specs.declared.cells.CellType.{CellType}
 use Rattle.l2_runs.specs.declared.cells.CellType.TheVariants.{Integer}
 use Rattle.l2_runs.specs.declared.cells.CellValue.{CellValue}
+use Rattle.l2_runs.specs.declared.cells.CellValue.TheVariants as value
+use Rattle.l2_runs.specs.declared.cells.CellValue.TheVariants.{Number, Null, Invalid}
 use Rattle.l2_runs.specs.Store.{Store}
 use Rattle.l2_code.specs.declared.action.Operand.{Operand}
-use Rattle.l2_code.specs.declared.action.Operand.TheVariants.{Temp}
+use Rattle.l2_code.specs.declared.action.Operand.TheVariants.{Constant, Temp}
 use Rattle.l2_code.specs.Values.{Temps, operand_value, is_true}
 use Rattle.l2_code.specs.Machine.{Way, On, Out, leave}
 use Rattle.l2_supply.specs.Supply.{Come, Goes, Ends}
 use Rattle.l2_ssa.specs.Steps.{Step, Merge, Names, on, bit, Meaning, Holds, Solves}
 use Rattle.l2_ssa.specs.Walks as walks
-use Rattle.l2_ssa.specs.Walks.{Setting, Slot, Walk, Entry, past, merge_cells, merged_cells, merge_slots, merge_flags, merged_slots, merge_if, merge_all, outer_if, outer, at_label}
+use Rattle.l2_ssa.specs.Walks.{Setting, Slot, Walk, Entry, past, same_value, same_operand, merge_step, merged, next_merge, merge_cells, merged_cells, merge_slots, merge_flags, merged_slots, merge_if, merge_all, outer_if, outer, at_label}
 use Rattle.l2_ssa.proofs.Shows.{Spot, Off, At, SameLength, CellsRead, SlotsRead, Sized, Stands, AllShut, OneOpen, Shows, Stops, solves_first, solves_second}
 
 pub bit_on : (b : Bool) → is_true (bit b) ≡ b
 bit_on true = refl
 bit_on false = refl
+
+same_value_is : (a b : CellValue) → same_value a b ≡ true → a ≡ b
+same_value_is (Number a) (Number b) e = ap Number (number_is a b e)
+  where
+    number_is : (a b : ℤ) → int_eq a b ≡ true → a ≡ b
+    number_is a b e = grind (arith, ints, e)
+same_value_is (Number a) Null e = absurd (grind (arith, e))
+same_value_is (Number a) Invalid e = absurd (grind (arith, e))
+same_value_is (Number a) (value.At o f) e = absurd (grind (arith, e))
+same_value_is Null (Number a) e = absurd (grind (arith, e))
+same_value_is Null Null e = refl
+same_value_is Null Invalid e = absurd (grind (arith, e))
+same_value_is Null (value.At o f) e = absurd (grind (arith, e))
+same_value_is Invalid (Number a) e = absurd (grind (arith, e))
+same_value_is Invalid Null e = absurd (grind (arith, e))
+same_value_is Invalid Invalid e = refl
+same_value_is Invalid (value.At o f) e = absurd (grind (arith, e))
+same_value_is (value.At o f) (Number a) e = absurd (grind (arith, e))
+same_value_is (value.At o f) Null e = absurd (grind (arith, e))
+same_value_is (value.At o f) Invalid e = absurd (grind (arith, e))
+same_value_is (value.At o f) (value.At p g) e = λ i. value.At (fst i) (snd i)
+  where
+    fst : o ≡ p
+    fst = grind (arith, e)
+
+    snd : f ≡ g
+    snd = grind (arith, e)
+
+same_is : (a b : Operand) → same_operand a b ≡ true → a ≡ b
+same_is (Constant v) (Constant w) e = ap Constant (same_value_is v w e)
+same_is (Constant v) (Temp n) e = absurd (grind (arith, e))
+same_is (Temp n) (Constant v) e = absurd (grind (arith, e))
+same_is (Temp n) (Temp m) e = ap Temp (grind (arith, e))
 
 module _ (m : Meaning) (s : Names) (g : Setting) where
   -- cells of an entry where its path is true, else of the path that falls
@@ -34,17 +71,26 @@ module _ (m : Meaning) (s : Names) (g : Setting) where
   cells_chosen p h [] (x ∷ xs) ys n a b ok = absurd a
   cells_chosen p h (t ∷ ts) [] ys n a b ok = absurd a
   cells_chosen p h (t ∷ ts) (x ∷ xs) [] n a b ok = absurd b
-  cells_chosen p h (t ∷ ts) (x ∷ xs) (y ∷ ys) n a b ok =
-      let c = cells_chosen p h ts xs ys (suc n) a b ok.1 in
-      record { size = c.size; first = firsts c ok.0; second = seconds c ok.0 }
+  cells_chosen p h (t ∷ ts) (x ∷ xs) (y ∷ ys) n a b ok = go (same_operand x y) (same_is x y) (λ i ok. cells_chosen p h ts xs ys i a b ok) ok
     where
-      firsts : ChosenCells p h ts xs ys (merged_cells (suc n) ts xs ys) → Holds m s n (Merge p h t x y) → (vs : List CellValue) → on s h ≡ true → CellsRead m s g (x ∷ xs) vs → CellsRead m s g (Temp n ∷ merged_cells (suc n) ts xs ys) vs
-      firsts c i [] e k = k
-      firsts c i (v ∷ vs) e k = (i.0 e ∙ k.0, c.first vs e k.1)
+      firsts : (n : ℕ) (z : Operand) → ChosenCells p h ts xs ys (merged_cells n ts xs ys) → (on s h ≡ true → operand_value s z ≡ operand_value s x) → (vs : List CellValue) → on s h ≡ true → CellsRead m s g (x ∷ xs) vs
+          → CellsRead m s g (z ∷ merged_cells n ts xs ys) vs
+      firsts n z c i [] e k = k
+      firsts n z c i (v ∷ vs) e k = (i e ∙ k.0, c.first vs e k.1)
 
-      seconds : ChosenCells p h ts xs ys (merged_cells (suc n) ts xs ys) → Holds m s n (Merge p h t x y) → (vs : List CellValue) → on s p ≡ true → on s h ≡ false → CellsRead m s g (y ∷ ys) vs → CellsRead m s g (Temp n ∷ merged_cells (suc n) ts xs ys) vs
-      seconds c i [] e d k = k
-      seconds c i (v ∷ vs) e d k = (i.1 e d ∙ k.0, c.second vs e d k.1)
+      seconds : (n : ℕ) (z : Operand) → ChosenCells p h ts xs ys (merged_cells n ts xs ys) → (on s p ≡ true → on s h ≡ false → operand_value s z ≡ operand_value s y) → (vs : List CellValue) → on s p ≡ true → on s h ≡ false
+          → CellsRead m s g (y ∷ ys) vs → CellsRead m s g (z ∷ merged_cells n ts xs ys) vs
+      seconds n z c i [] e d k = k
+      seconds n z c i (v ∷ vs) e d k = (i e d ∙ k.0, c.second vs e d k.1)
+
+      go : (e : Bool) → (e ≡ true → x ≡ y) → ((i : ℕ) → Solves m s i (merge_cells p h ts xs ys) → ChosenCells p h ts xs ys (merged_cells i ts xs ys)) → Solves m s n (merge_step e p h t x y ++ merge_cells p h ts xs ys)
+          → ChosenCells p h (t ∷ ts) (x ∷ xs) (y ∷ ys) (merged e n x ∷ merged_cells (next_merge e n) ts xs ys)
+      go true e rest ok =
+          let c = rest n ok in
+          record { size = c.size; first = firsts n x c (λ i. refl); second = seconds n x c (λ i j. ap (operand_value s) (e refl)) }
+      go false e rest ok =
+          let c = rest (suc n) ok.1 in
+          record { size = c.size; first = firsts (suc n) (Temp n) c ok.0.0; second = seconds (suc n) (Temp n) c ok.0.1 }
 
   record ChosenSlots (p h : Operand) (o k : ℕ) (xs ys zs : List Slot) : Type 0 where
     size : Sized m s g o k zs
@@ -59,25 +105,38 @@ module _ (m : Meaning) (s : Names) (g : Setting) where
   slots_chosen p h o (suc k) [] ys n i a b ok fl = absurd a
   slots_chosen p h o (suc k) (x ∷ xs) [] n i a b ok fl = absurd b
   slots_chosen p h o (suc k) (x ∷ xs) (y ∷ ys) n i a b ok fl =
-      let c = cells_chosen p h (g.types.objects o) x.cells y.cells n a.0 b.0 (solves_first m s g n (merge_cells p h (g.types.objects o) x.cells y.cells) _ ok) in
-      let d = slots_chosen p h (suc o) k xs ys (past n (merge_cells p h (g.types.objects o) x.cells y.cells)) (suc i) a.1 b.1
-      (solves_second m s g n (merge_cells p h (g.types.objects o) x.cells y.cells) _ ok) fl.1 in
-      record { size = (c.size, d.size); first = firsts c d fl.0; second = seconds c d fl.0 }
+      go (same_operand x.live y.live) (same_is x.live y.live)
+      (λ j fl. slots_chosen p h (suc o) k xs ys (past n (merge_cells p h (g.types.objects o) x.cells y.cells)) j a.1 b.1
+      (solves_second m s g n (merge_cells p h (g.types.objects o) x.cells y.cells) _ ok) fl) fl
     where
-      cells : List Operand
-      cells = merged_cells n (g.types.objects o) x.cells y.cells
+      after : ℕ → List Slot
+      after j = merged_slots g p h (past n (merge_cells p h (g.types.objects o) x.cells y.cells)) j (suc o) xs ys
 
-      firsts : ChosenCells p h (g.types.objects o) x.cells y.cells (merged_cells n (g.types.objects o) x.cells y.cells)
-          → ChosenSlots p h (suc o) k xs ys (merged_slots g p h (past n (merge_cells p h (g.types.objects o) x.cells y.cells)) (suc i) (suc o) xs ys)
-          → Holds m s i (Merge p h (Integer bool_type) x.live y.live) → (st : Store) → on s h ≡ true → SlotsRead m s g (x ∷ xs) st → SlotsRead m s g (merged_slots g p h n i o (x ∷ xs) (y ∷ ys)) st
-      firsts c d j [] e q = q
-      firsts c d j (v ∷ vs) e q = ((c.first v.cells e q.0.0, ap is_true (j.0 e) ∙ q.0.1), d.first vs e q.1)
+      cells : ChosenCells p h (g.types.objects o) x.cells y.cells (merged_cells n (g.types.objects o) x.cells y.cells)
+      cells = cells_chosen p h (g.types.objects o) x.cells y.cells n a.0 b.0 (solves_first m s g n (merge_cells p h (g.types.objects o) x.cells y.cells) _ ok)
 
-      seconds : ChosenCells p h (g.types.objects o) x.cells y.cells (merged_cells n (g.types.objects o) x.cells y.cells)
-          → ChosenSlots p h (suc o) k xs ys (merged_slots g p h (past n (merge_cells p h (g.types.objects o) x.cells y.cells)) (suc i) (suc o) xs ys)
-          → Holds m s i (Merge p h (Integer bool_type) x.live y.live) → (st : Store) → on s p ≡ true → on s h ≡ false → SlotsRead m s g (y ∷ ys) st → SlotsRead m s g (merged_slots g p h n i o (x ∷ xs) (y ∷ ys)) st
-      seconds c d j [] e f q = q
-      seconds c d j (v ∷ vs) e f q = ((c.second v.cells e f q.0.0, ap is_true (j.1 e f) ∙ q.0.1), d.second vs e f q.1)
+      slot : Operand → Slot
+      slot z = record { cells = merged_cells n (g.types.objects o) x.cells y.cells; live = z }
+
+      firsts : (j : ℕ) (z : Operand) → ChosenSlots p h (suc o) k xs ys (after j) → (on s h ≡ true → operand_value s z ≡ operand_value s x.live) → (st : Store) → on s h ≡ true → SlotsRead m s g (x ∷ xs) st
+          → SlotsRead m s g (slot z ∷ after j) st
+      firsts j z d l [] e q = q
+      firsts j z d l (v ∷ vs) e q = ((cells.first v.cells e q.0.0, ap is_true (l e) ∙ q.0.1), d.first vs e q.1)
+
+      seconds : (j : ℕ) (z : Operand) → ChosenSlots p h (suc o) k xs ys (after j) → (on s p ≡ true → on s h ≡ false → operand_value s z ≡ operand_value s y.live) → (st : Store) → on s p ≡ true → on s h ≡ false
+          → SlotsRead m s g (y ∷ ys) st → SlotsRead m s g (slot z ∷ after j) st
+      seconds j z d l [] e f q = q
+      seconds j z d l (v ∷ vs) e f q = ((cells.second v.cells e f q.0.0, ap is_true (l e f) ∙ q.0.1), d.second vs e f q.1)
+
+      go : (e : Bool) → (e ≡ true → x.live ≡ y.live) → ((j : ℕ) → Solves m s j (merge_flags p h xs ys) → ChosenSlots p h (suc o) k xs ys (after j))
+          → Solves m s i (merge_step e p h (Integer bool_type) x.live y.live ++ merge_flags p h xs ys)
+          → ChosenSlots p h o (suc k) (x ∷ xs) (y ∷ ys) (slot (merged e i x.live) ∷ after (next_merge e i))
+      go true e rest fl =
+          let d = rest i fl in
+          record { size = (cells.size, d.size); first = firsts i x.live d (λ l. refl); second = seconds i x.live d (λ l j. ap (operand_value s) (e refl)) }
+      go false e rest fl =
+          let d = rest (suc i) fl.1 in
+          record { size = (cells.size, d.size); first = firsts (suc i) (Temp i) d fl.0.0; second = seconds (suc i) (Temp i) d fl.0.1 }
 
   -- ---- one entry
 

@@ -1,6 +1,7 @@
 -- Each step of a walk reads names before its own.
 use Rattle.std.proofs.Common.{arith, ◌≡◌, ℕ, zero, suc, ◌<◌, ◌≤◌, Bool, true, false, refl, sym, ◌∙◌, subst, List, [], ◌∷◌, ◌++◌, cond}
 use Rattle.std.specs.Prelude.{slice_get, slice_set, slice_index_or, ◌==◌}
+use Rattle.l2_bits.specs.Types.{bool_type}
 use Rattle.l2_runs.specs.declared.cells.CellType.{CellType}
 use Rattle.l2_runs.specs.declared.cells.CellType.TheVariants.{Integer, Pointer}
 use Rattle.l2_runs.specs.declared.cells.CellValue.TheVariants.{Number, Null, Invalid, At}
@@ -352,10 +353,23 @@ module _ (g : Setting) (p h : Operand) where
   cells_order [] xs ys n a b x y = (tt, tt)
   cells_order (t ∷ ts) [] ys n a b x y = (tt, tt)
   cells_order (t ∷ ts) (u ∷ xs) [] n a b x y = (tt, tt)
-  cells_order (t ∷ ts) (u ∷ xs) (v ∷ ys) n a b x y =
-      let r = cells_order ts xs ys (suc n) (before_up n (suc n) p (le_next n) a) (before_up n (suc n) h (le_next n) b) (are_up n (suc n) xs (le_next n) x.1) (are_up n (suc n) ys (le_next n) y.1) in
-      let le = past_le (suc n) (walks.merge_cells p h ts xs ys) in
-      (((a, b, x.0, y.0), r.0), (omega (arith, le), r.1))
+  cells_order (t ∷ ts) (u ∷ xs) (v ∷ ys) n a b x y = go (walks.same_operand u v) (λ i l. cells_order ts xs ys i (before_up n i p l a) (before_up n i h l b) (are_up n i xs l x.1) (are_up n i ys l y.1))
+    where
+      go : (e : Bool) → ((i : ℕ) → n ≤ i → InOrder i (walks.merge_cells p h ts xs ys) × AreBefore (past i (walks.merge_cells p h ts xs ys)) (walks.merged_cells i ts xs ys))
+          → InOrder n (walks.merge_step e p h t u v ++ walks.merge_cells p h ts xs ys)
+          × AreBefore (past n (walks.merge_step e p h t u v ++ walks.merge_cells p h ts xs ys)) (walks.merged e n u ∷ walks.merged_cells (walks.next_merge e n) ts xs ys)
+      go true rest =
+          let r = rest n (omega arith) in
+          (r.0, (before_up n (past n (walks.merge_cells p h ts xs ys)) u (past_le n (walks.merge_cells p h ts xs ys)) x.0, r.1))
+      go false rest =
+          let r = rest (suc n) (le_next n) in
+          let le = past_le (suc n) (walks.merge_cells p h ts xs ys) in
+          (((a, b, x.0, y.0), r.0), (omega (arith, le), r.1))
+
+  live_before : (e : Bool) (n i k : ℕ) (u v : Operand) (rest : List Step) → n ≤ k → IsBefore n u → past i (walks.merge_step e p h (Integer bool_type) u v ++ rest) ≤ k
+      → IsBefore k (walks.merged e i u) × (past (walks.next_merge e i) rest ≤ k)
+  live_before true n i k u v rest l b f = (before_up n k u l b, f)
+  live_before false n i k u v rest l b f = let le = past_le (suc i) rest in (omega (arith, f, le), f)
 
   slots_order : (xs ys : List Slot) (o n i k : ℕ) → IsBefore n p → IsBefore n h → SlotsBefore n xs → SlotsBefore n ys → past n (walks.merge_slots g p h o xs ys) ≤ k → past i (walks.merge_flags p h xs ys) ≤ k
       → InOrder n (walks.merge_slots g p h o xs ys) × SlotsBefore k (walks.merged_slots g p h n i o xs ys)
@@ -367,16 +381,20 @@ module _ (g : Setting) (p h : Operand) where
       let le = past_le n cs in
       let e = past_app n cs (walks.merge_slots g p h (suc o) xs ys) in
       let c = cells_order (g.types.objects o) u.cells v.cells n a b x.0.cells y.0.cells in
-      let lf = past_le (suc i) (walks.merge_flags p h xs ys) in
       let ls = past_le n1 (walks.merge_slots g p h (suc o) xs ys) in
-      let r = slots_order xs ys (suc o) n1 (suc i) k (before_up n n1 p le a) (before_up n n1 h le b) (slots_up n n1 xs le x.1) (slots_up n n1 ys le y.1) (omega (arith, l, e)) f in
-      (order_app n cs (walks.merge_slots g p h (suc o) xs ys) c.0 r.0, (record { cells = are_up n1 k (walks.merged_cells n (g.types.objects o) u.cells v.cells) (omega (arith, l, e, ls)) c.1; live = omega (arith, f, lf) }, r.1))
+      let q = live_before (walks.same_operand u.live v.live) n i k u.live v.live (walks.merge_flags p h xs ys) (omega (arith, l, e, ls, le)) x.0.live f in
+      let r = slots_order xs ys (suc o) n1 (walks.next_merge (walks.same_operand u.live v.live) i) k (before_up n n1 p le a) (before_up n n1 h le b) (slots_up n n1 xs le x.1) (slots_up n n1 ys le y.1) (omega (arith, l, e)) q.1 in
+      (order_app n cs (walks.merge_slots g p h (suc o) xs ys) c.0 r.0, (record { cells = are_up n1 k (walks.merged_cells n (g.types.objects o) u.cells v.cells) (omega (arith, l, e, ls)) c.1; live = q.0 }, r.1))
 
   flags_order : (xs ys : List Slot) (n : ℕ) → IsBefore n p → IsBefore n h → SlotsBefore n xs → SlotsBefore n ys → InOrder n (walks.merge_flags p h xs ys)
   flags_order [] ys n a b x y = tt
   flags_order (u ∷ xs) [] n a b x y = tt
   flags_order (u ∷ xs) (v ∷ ys) n a b x y =
-      ((a, b, x.0.live, y.0.live), flags_order xs ys (suc n) (before_up n (suc n) p (le_next n) a) (before_up n (suc n) h (le_next n) b) (slots_up n (suc n) xs (le_next n) x.1) (slots_up n (suc n) ys (le_next n) y.1))
+      go (walks.same_operand u.live v.live) (λ i l. flags_order xs ys i (before_up n i p l a) (before_up n i h l b) (slots_up n i xs l x.1) (slots_up n i ys l y.1))
+    where
+      go : (e : Bool) → ((i : ℕ) → n ≤ i → InOrder i (walks.merge_flags p h xs ys)) → InOrder n (walks.merge_step e p h (Integer bool_type) u.live v.live ++ walks.merge_flags p h xs ys)
+      go true rest = rest n (omega arith)
+      go false rest = ((a, b, x.0.live, y.0.live), rest (suc n) (le_next n))
 
 module _ (g : Setting) where
   merge_order : (d : ℕ) (e : Entry) (n : ℕ) (w : Walk) → IsBefore n e.path → SlotsBefore n e.slots → WalkBefore n w
@@ -649,6 +667,6 @@ events_known n [] h = tt
 events_known n (e ∷ es) h = (h.0, events_known n es h.1)
 
 pub steps_in_order : law.StepsInOrder
-steps_in_order c f k kind =
-    let x = nodes_order (law.setting_of c f k kind) c.body [] walks.T 0 (law.first_walk c) tt tt (record { path = tt; temps = λ i. tt; slots = first_before 0 c.objects }) in
+steps_in_order c f k kind ranks =
+    let x = nodes_order (law.setting_of c f k kind ranks) c.body [] walks.T 0 (law.first_walk c) tt tt (record { path = tt; temps = λ i. tt; slots = first_before 0 c.objects }) in
     (x.order, events_known _ _ x.events)

@@ -36,7 +36,7 @@ there_get [] i h = absurd (omega (arith, h))
 there_get (x ∷ xs) zero h = omega arith
 there_get (x ∷ xs) (suc i) h = let k = there_get xs i h in omega arith
 
-there_number : (xs : List CodeObject) (o : ℕ) → 0 < length (object_cells (at_number xs o)) → (1 ≤ o) × (o < 1 + length xs)
+pub there_number : (xs : List CodeObject) (o : ℕ) → 0 < length (object_cells (at_number xs o)) → (1 ≤ o) × (o < 1 + length xs)
 there_number xs zero h = absurd (omega (arith, h))
 there_number xs (suc i) h = let k = there_get xs i h in (omega arith, omega arith)
 
@@ -69,7 +69,7 @@ module _ (m : Meaning) (s : Names) (g : Setting) where
 
   -- ---- events
 
-  no_event : (goal : Goal) (es : List Event) → AllFalse m s g es → HasEvent s goal es → ⊥
+  pub no_event : (goal : Goal) (es : List Event) → AllFalse m s g es → HasEvent s goal es → ⊥
   no_event goal [] h k = k
   no_event goal (e ∷ es) h (inl k) = let a = k.1 in let b = h.0 in cc
   no_event goal (e ∷ es) h (inr k) = no_event goal es h.1 k
@@ -81,7 +81,7 @@ module _ (m : Meaning) (s : Names) (g : Setting) where
   one_event goal x (e ∷ es) (inr h) (inl k) = let a = k.1 in let b = h.0 in cc
   one_event goal x (e ∷ es) (inr h) (inr k) = one_event goal x es h.1 k
 
-  event_if : (b : Bool) (goal : Goal) (x : End) (es : List Event) → OneIf m s g b x es → HasEvent s goal es → x ≡ end_of g goal
+  pub event_if : (b : Bool) (goal : Goal) (x : End) (es : List Event) → OneIf m s g b x es → HasEvent s goal es → x ≡ end_of g goal
   event_if true goal x es h k = one_event goal x es h k
   event_if false goal x es h k = absurd (no_event goal es h k)
 
@@ -89,12 +89,12 @@ module _ (m : Meaning) (s : Names) (g : Setting) where
 
 module _ (c : CodeTree) (f : Family) (w : IsWellFormed c) (z : IsResolved c f) (k0 : ℕ) (kind : ℕ → Kind) (row : RowsOf) (lower : RanksOf) (s : Names) where
   abbrev g : Setting
-  g = setting_of c f (suc k0) kind
+  g = setting_of c f (suc k0) kind false
 
   abbrev m : Meaning
   m = record { types = types_of c; row = row; lower = lower }
 
-  abbrev there : (o : ℕ) → 0 < length ((types_of c).objects o) → (1 ≤ o) × (o < 1 + length c.objects)
+  abbrev pub there : (o : ℕ) → 0 < length ((types_of c).objects o) → (1 ≤ o) × (o < 1 + length c.objects)
   there o h = there_number c.objects o h
 
   abbrev the_run : Rattle.l2_supply.specs.Going.Setting
@@ -121,20 +121,20 @@ module _ (c : CodeTree) (f : Family) (w : IsWellFormed c) (z : IsResolved c f) (
       one_more : suc i ≡ 1 + i
       one_more = omega arith
 
-  begins : Begins m s g (first_walk c) (Standing no_temps p0)
+  pub begins : Begins m s g (first_walk c) (Standing no_temps p0)
   begins = record { stands = (refl, first_sized m s g c.objects 1 sized, first_reads m s g c.objects); temps = λ n. refl }
 
-  temps_hold : TempsHold (types_of c).objects f empty_scope no_temps
+  pub temps_hold : TempsHold (types_of c).objects f empty_scope no_temps
   temps_hold = record { sets = λ n x e. cc; types = λ n. tt }
 
-  stored : StoreHolds (types_of c).objects f (first_store c)
+  pub stored : StoreHolds (types_of c).objects f (first_store c)
   stored = start_holds (types_of c).objects f (small_objects c w) (λ n o e. has_cell (at_number c.objects o) (z.over.objects n o e)) c.objects (λ n. refl) (λ n o e. (w.objects n o e, z.closed.objects n o e))
 
-  module _ (ok : Solves m s 0 (ssa c f (suc k0) kind).steps) (goal : Goal) (ev : HasEvent s goal (ssa c f (suc k0) kind).events) where
+  module _ (ok : Solves m s 0 (ssa c f (suc k0) kind false).steps) (goal : Goal) (ev : HasEvent s goal (ssa c f (suc k0) kind false).events) where
     abbrev u : Supply
-    u = supply_of s (ssa c f (suc k0) kind).given
+    u = supply_of s (ssa c f (suc k0) kind false).given
 
-    reached : (e : Come Way) → Shows m s g (ssa c f (suc k0) kind) (allow (outs_of s []) e) → Chosen (Rattle.l2_code.specs.Machine.nodes (machine_of the_run) true c.body no_temps) p0 e → IsReached c f (suc k0) row lower kind goal
+    reached : (e : Come Way) → Shows m s g (ssa c f (suc k0) kind false) (allow (outs_of s []) e) → Chosen (Rattle.l2_code.specs.Machine.nodes (machine_of the_run) true c.body no_temps) p0 e → IsReached c f (suc k0) row lower kind goal
     reached (Goes (On t) p) h ch = absurd (no_event m s g goal _ h.events ev)
     reached (Goes (Out n) p) h ch = absurd (no_event m s g goal _ h.events ev)
     reached (Ends e p) h ch =
@@ -144,7 +144,7 @@ module _ (c : CodeTree) (f : Family) (w : IsWellFormed c) (z : IsResolved c f) (
     solution_runs =
         reached (come u)
         (nodes_shows row lower s g (length c.checks) (length c.loops) (small_objects c w) there refl k0 refl (limits_hold c f w z (Cut (suc k0) (starts row g))) c.body [] walks.T 0 (first_walk c) no_temps p0 u empty_scope
-        w.typed z.closed.actions begins temps_hold stored ok (match_own s (ssa c f (suc k0) kind).given (nodes_given m s g c.body [] walks.T 0 (first_walk c) ok))
+        w.typed z.closed.actions begins temps_hold stored ok (match_own s (types_of c).objects (ssa c f (suc k0) kind false).given (nodes_given m s g c.body [] walks.T 0 (first_walk c) ok))
         (not_stuck (come u) ((nodes_agree the_run true c.body no_temps).by_supply p0 u)))
         ((nodes_agree the_run true c.body no_temps).by_supply p0 u)
 
@@ -154,7 +154,7 @@ solutions_run c f w z (suc k0) some kind row lower s ok goal ev = solution_runs 
 
 -- ---- the converse
 
-fail_shown : (c : CodeTree) (f : Family) (k : ℕ) (kind : ℕ → Kind) (x : End) → IsFailure x → is_shown (setting_of c f k kind) x ≡ true
+fail_shown : (c : CodeTree) (f : Family) (k : ℕ) (kind : ℕ → Kind) (x : End) → IsFailure x → is_shown (setting_of c f k kind false) x ≡ true
 fail_shown c f k kind (Over Ended) h = absurd h
 fail_shown c f k kind (Over Stopped) h = absurd h
 fail_shown c f k kind (Over (Broken i)) h = refl
@@ -177,7 +177,7 @@ one_end m s g x (e ∷ es) (inr h) = inr (one_end m s g x es h.1)
 
 module _ (c : CodeTree) (f : Family) (w : IsWellFormed c) (z : IsResolved c f) (k0 : ℕ) (kind : ℕ → Kind) (no_plain : (l : ℕ) → kind l ≡ walks.Plain → ⊥) (row : RowsOf) (lower : RanksOf) (x : End) (fails : IsFailure x) where
   abbrev gg : Setting
-  gg = setting_of c f (suc k0) kind
+  gg = setting_of c f (suc k0) kind false
 
   abbrev rr : Rattle.l2_supply.specs.Going.Setting
   rr = record { heads = Rattle.l2_supply.specs.Going.Cut (suc k0) (starts row gg); tests = tests row lower gg; types = types_of c; sets = f.object; mods = gg.mods }
@@ -199,27 +199,27 @@ module _ (c : CodeTree) (f : Family) (w : IsWellFormed c) (z : IsResolved c f) (
       let d = h (subst IsFailure (sym e) fails) in
       record { supply = d.0; place = place_of st; is = d.1 ∙ ap (λ i. Ends i (place_of st)) e }
 
-  entered_is : (u : Supply) (p : Place) → comes u ≡ Ends x p → Same (comes u) (comes (enter (ssa c f (suc k0) kind).given u)) → comes (enter (ssa c f (suc k0) kind).given u) ≡ Ends x p
+  entered_is : (u : Supply) (p : Place) → comes u ≡ Ends x p → Same (comes u) (comes (enter (ssa c f (suc k0) kind false).given u)) → comes (enter (ssa c f (suc k0) kind false).given u) ≡ Ends x p
   entered_is u p e (inl q) = sym q ∙ e
   entered_is u p e (inr h) = absurd (fail_goes_on x p fails (subst (λ (y : Come Way). Halted y) e h))
 
-  shown : (s : Names) (u : Supply) (p : Place) → comes u ≡ Ends x p → Solves (record { types = types_of c; row = row; lower = lower }) s 0 (ssa c f (suc k0) kind).steps → Matches s (ssa c f (suc k0) kind).given u → HasEnd s gg x (ssa c f (suc k0) kind).events
+  shown : (s : Names) (u : Supply) (p : Place) → comes u ≡ Ends x p → Solves (record { types = types_of c; row = row; lower = lower }) s 0 (ssa c f (suc k0) kind false).steps → Matches (types_of c).objects s (ssa c f (suc k0) kind false).given u → HasEnd s gg x (ssa c f (suc k0) kind false).events
   shown s u p e ok mt =
       let sh = nodes_shows row lower s gg (length c.checks) (length c.loops) (small_objects c w) (there c f w z k0 kind row lower s) refl k0 refl (limits_hold c f w z (Cut (suc k0) (starts row gg))) c.body [] walks.T 0 (first_walk c) no_temps pp u empty_scope
       w.typed z.closed.actions (begins c f w z k0 kind row lower s) (temps_hold c f w z k0 kind row lower s) (stored c f w z k0 kind row lower s) ok mt
       (not_stuck c f w z k0 kind row lower s (comes u) ((nodes_agree rr true c.body no_temps).by_supply pp u)) in
-      let ends = subst (λ y. Shows (record { types = types_of c; row = row; lower = lower }) s gg (ssa c f (suc k0) kind) (allow (outs_of s []) y)) e sh in
-      one_end (record { types = types_of c; row = row; lower = lower }) s gg x (ssa c f (suc k0) kind).events
-      (subst (λ b. OneIf (record { types = types_of c; row = row; lower = lower }) s gg b x (ssa c f (suc k0) kind).events) (fail_shown c f (suc k0) kind x fails) ends.events)
+      let ends = subst (λ y. Shows (record { types = types_of c; row = row; lower = lower }) s gg (ssa c f (suc k0) kind false) (allow (outs_of s []) y)) e sh in
+      one_end (record { types = types_of c; row = row; lower = lower }) s gg x (ssa c f (suc k0) kind false).events
+      (subst (λ b. OneIf (record { types = types_of c; row = row; lower = lower }) s gg b x (ssa c f (suc k0) kind false).events) (fail_shown c f (suc k0) kind x fails) ends.events)
 
   solve : (choices : List ℤ) (turns : ℕ) → EndsAt x (run_code c (limit_of c f (Cut (suc k0) (starts row gg))) (tests row lower gg) (start c choices turns))
-      → (u : Supply) × ((s : Names) → Solves (record { types = types_of c; row = row; lower = lower }) s 0 (ssa c f (suc k0) kind).steps → Matches s (ssa c f (suc k0) kind).given u → HasEnd s gg x (ssa c f (suc k0) kind).events)
+      → (u : Supply) × ((s : Names) → Solves (record { types = types_of c; row = row; lower = lower }) s 0 (ssa c f (suc k0) kind false).steps → Matches (types_of c).objects s (ssa c f (suc k0) kind false).given u → HasEnd s gg x (ssa c f (suc k0) kind false).events)
   solve choices turns e =
       let d = find (Rattle.l2_code.specs.Machine.nodes (machine_of rr) true c.body no_temps (start c choices turns)) ((nodes_agree rr true c.body no_temps).by_choices (start c choices turns)) e in
-      let given = (ssa c f (suc k0) kind).given in (
+      let given = (ssa c f (suc k0) kind false).given in (
         enter given d.supply,
         λ s ok mt. shown s (enter given d.supply) d.place
-            (entered_is d.supply d.place d.is (nodes_enter gg row lower k0 refl no_plain c.body [] walks.T 0 (first_walk c) true no_temps d.supply pp)) ok mt,
+            (entered_is d.supply d.place d.is (nodes_enter gg row (tests row lower gg) k0 refl no_plain c.body [] walks.T 0 (first_walk c) true no_temps d.supply pp)) ok mt,
       )
 
 pub runs_solve : RunsSolve

@@ -134,7 +134,7 @@ module _ (row : RowsOf) (lower : RanksOf) (s : Names) (g : Setting) (checks loop
     -- ---- loops
 
     module _ (l : ℕ) (body : Frame → Operand → ℕ → Walk → walks.Out) (turn : Bool → Supplied Way) (fs : List Frame) (temps : ℕ → Operand) (t : Temps) (same : (i : ℕ) → operand_value s (temps i) ≡ t i)
-        (body_shows : (f : Frame) (d : Operand) (n : ℕ) (w : Walk) (p : Place) (u : Supply) → Begins m s g w (Standing t p) → Inv p.store → Solves m s n (body f d n w).steps → Matches s (body f d n w).given u
+        (body_shows : (f : Frame) (d : Operand) (n : ℕ) (w : Walk) (p : Place) (u : Supply) → Begins m s g w (Standing t p) → Inv p.store → Solves m s n (body f d n w).steps → Matches g.types.objects s (body f d n w).given u
         → NotStuck (turn (on s d) u p) → Show (body f d n w) (allow (outs_of s (f ∷ fs)) (turn (on s d) u p)))
         (body_stops : (f : Frame) (d : Operand) (n : ℕ) (w : Walk) → Stand w.path w.slots Off → Solves m s n (body f d n w).steps → Stop (body f d n w))
         (body_holds : (c : Bool) (u : Supply) (p : Place) → Inv p.store → ComeHolds Inv (turn c u p)) where
@@ -146,7 +146,7 @@ module _ (row : RowsOf) (lower : RanksOf) (s : Names) (g : Setting) (checks loop
 
       abbrev CopiesShow : Kind → Type 0
       CopiesShow kd = (b c : Operand) (z : Bool) → z ≡ on s b → (k n : ℕ) (w : Walk) (p : Place) (u : Supply) → Stand w.path w.slots (At p.store) → Inv p.store → Solves m s n (walk_copies g body l kd b c temps k n w).steps
-          → Matches s (walk_copies g body l kd b c temps k n w).given u → NotStuck (turns q z (on s c) k u p) → Show (walk_copies g body l kd b c temps k n w) (allow (outs_of s fs) (way_of (turns q z (on s c) k u p)))
+          → Matches g.types.objects s (walk_copies g body l kd b c temps k n w).given u → NotStuck (turns q z (on s c) k u p) → Show (walk_copies g body l kd b c temps k n w) (allow (outs_of s fs) (way_of (turns q z (on s c) k u p)))
 
       copies_at : (kd : Kind) → g.kind l ≡ kd → CopiesShow kd
       copies_at kd e = subst CopiesShow e (copies_show m s g refl plain l body turn fs temps t same Inv body_shows body_stops body_holds)
@@ -159,10 +159,10 @@ module _ (row : RowsOf) (lower : RanksOf) (s : Names) (g : Setting) (checks loop
 
       -- so many copies, as the setting has it
       copies_all : (kd : Kind) → g.kind l ≡ kd → (b c : Operand) (z : Bool) → z ≡ on s b → (n : ℕ) (w : Walk) (p : Place) (u : Supply) → Stand w.path w.slots (At p.store) → Inv p.store
-          → Solves m s n (walk_copies g body l kd b c temps g.copies n w).steps → Matches s (walk_copies g body l kd b c temps g.copies n w).given u → NotStuck (turns q z (on s c) (suc k0) u p)
+          → Solves m s n (walk_copies g body l kd b c temps g.copies n w).steps → Matches g.types.objects s (walk_copies g body l kd b c temps g.copies n w).given u → NotStuck (turns q z (on s c) (suc k0) u p)
           → Show (walk_copies g body l kd b c temps g.copies n w) (allow (outs_of s fs) (way_of (turns q z (on s c) (suc k0) u p)))
       copies_all kd e b c z back n w p u =
-          subst (λ k. Stand w.path w.slots (At p.store) → Inv p.store → Solves m s n (walk_copies g body l kd b c temps k n w).steps → Matches s (walk_copies g body l kd b c temps k n w).given u → NotStuck (turns q z (on s c) (suc k0) u p)
+          subst (λ k. Stand w.path w.slots (At p.store) → Inv p.store → Solves m s n (walk_copies g body l kd b c temps k n w).steps → Matches g.types.objects s (walk_copies g body l kd b c temps k n w).given u → NotStuck (turns q z (on s c) (suc k0) u p)
           → Show (walk_copies g body l kd b c temps k n w) (allow (outs_of s fs) (way_of (turns q z (on s c) (suc k0) u p)))) (sym copies) (copies_at kd e b c z back (suc k0) n w p u)
 
       -- an entry's run
@@ -173,7 +173,7 @@ module _ (row : RowsOf) (lower : RanksOf) (s : Names) (g : Setting) (checks loop
           ∙ ap (λ (f : Supplied (Unit {0} × ℕ)). f (right (right u)) p) (entry_turns q b (suc k0))
 
       enter_shows : (kd : Kind) → g.kind l ≡ kd → (c : Operand) (n : ℕ) (w : Walk) (p : Place) (u : Supply) → Stand w.path w.slots (At p.store) → Inv p.store
-          → Solves m s n (walk_copies g body l kd walks.F c temps g.copies n w).steps → Matches s (walks.entered (walk_copies g body l kd walks.F c temps g.copies n w)).given u → NotStuck (loop_run (on s c) u p)
+          → Solves m s n (walk_copies g body l kd walks.F c temps g.copies n w).steps → Matches g.types.objects s (walks.entered (walk_copies g body l kd walks.F c temps g.copies n w)).given u → NotStuck (loop_run (on s c) u p)
           → Show (walks.entered (walk_copies g body l kd walks.F c temps g.copies n w)) (allow (outs_of s fs) (way_of (loop_run (on s c) u p)))
       enter_shows kd e c n w p u h inv ok mt ns =
           let r = entry_run (on s c) u p mt.0 in
@@ -209,7 +209,7 @@ module _ (row : RowsOf) (lower : RanksOf) (s : Names) (g : Setting) (checks loop
         cp = walk_copies g body l (Rows r) (Temp n) c temps g.copies (past n1 hd.steps) hd.walk
 
         abbrev rows_out : walks.Out
-        rows_out = record cp { steps = Rattle.l2_ssa.specs.Steps.Choose w.path ∷ (sc.steps ++ (hd.steps ++ cp.steps)); given = pair (walks.chosen n) (pair (pair sc.given walks.nothing) cp.given) }
+        rows_out = record cp { steps = Rattle.l2_ssa.specs.Steps.Choose w.path ∷ (sc.steps ++ (hd.steps ++ cp.steps)); given = pair (walks.chosen w.path n) (pair (pair sc.given walks.nothing) cp.given) }
 
         wrap_show : (x : Come Way) → Show cp x → Show rows_out x
         wrap_show x h = record { after = h.after; entries = h.entries; events = h.events }
@@ -233,7 +233,7 @@ module _ (row : RowsOf) (lower : RanksOf) (s : Names) (g : Setting) (checks loop
           pub rows_stop : Stand w.path w.slots Off → Stop rows_out
           rows_stop h = off_from (off_all m s g refl w.path (Temp n) (g.mods l) (suc n) w h ok_s)
 
-          module _ (p : Place) (u : Supply) (h : Stand w.path w.slots (At p.store)) (inv : Inv p.store) (mt : Matches s rows_out.given u) where
+          module _ (p : Place) (u : Supply) (h : Stand w.path w.slots (At p.store)) (inv : Inv p.store) (mt : Matches g.types.objects s rows_out.given u) where
             rows_entered : on s (Temp n) ≡ false → NotStuck (turns q false (on s c) (suc k0) (right (right u)) p) → Show rows_out (allow (outs_of s fs) (way_of (turns q false (on s c) (suc k0) (right (right u)) p)))
             rows_entered b ns =
                 wrap_show _ (copies_all (Rows r) e (Temp n) c false (sym b) (past n1 hd.steps) hd.walk p (right (right u))
@@ -269,7 +269,7 @@ module _ (row : RowsOf) (lower : RanksOf) (s : Names) (g : Setting) (checks loop
             rows_shows ns = go (int_eq (number_of (left u)) (pos 0)) refl
               where
                 bit_is : (x : Bool) → int_eq (number_of (left u)) (pos 0) ≡ x → on s (Temp n) ≡ not x
-                bit_is x i = ap is_true mt.0 ∙ bit_on (not (int_eq (number_of (left u)) (pos 0))) ∙ ap not i
+                bit_is x i = ap is_true (mt.0 h.0) ∙ bit_on (not (int_eq (number_of (left u)) (pos 0))) ∙ ap not i
 
                 go : (x : Bool) → int_eq (number_of (left u)) (pos 0) ≡ x → Show rows_out (allow (outs_of s fs) (way_of (loop_run (on s c) u p)))
                 go true i = subst (λ y. Show rows_out (allow (outs_of s fs) (way_of y))) (sym (entry_run (on s c) u p i)) (rows_entered (bit_is true i) (subst (λ y. NotStuck y) (entry_run (on s c) u p i) ns))
@@ -282,10 +282,10 @@ module _ (row : RowsOf) (lower : RanksOf) (s : Names) (g : Setting) (checks loop
     module _ (l : ℕ) (body : Frame → Operand → ℕ → Walk → walks.Out) (turn : Bool → Supplied Way) (fs : List Frame) (c : Operand) (n : ℕ) (w : Walk)
         (body_stops : (f : Frame) (d : Operand) (n : ℕ) (w : Walk) → Stand w.path w.slots Off → Solves m s n (body f d n w).steps → Stop (body f d n w)) where
       loop_shows : (t : Temps) (same : (i : ℕ) → operand_value s (w.temps i) ≡ t i)
-          (body_shows : (f : Frame) (d : Operand) (n : ℕ) (w : Walk) (p : Place) (u : Supply) → Begins m s g w (Standing t p) → Inv p.store → Solves m s n (body f d n w).steps → Matches s (body f d n w).given u
+          (body_shows : (f : Frame) (d : Operand) (n : ℕ) (w : Walk) (p : Place) (u : Supply) → Begins m s g w (Standing t p) → Inv p.store → Solves m s n (body f d n w).steps → Matches g.types.objects s (body f d n w).given u
           → NotStuck (turn (on s d) u p) → Show (body f d n w) (allow (outs_of s (f ∷ fs)) (turn (on s d) u p)))
           (body_holds : (c : Bool) (u : Supply) (p : Place) → Inv p.store → ComeHolds Inv (turn c u p))
-          (p : Place) (u : Supply) → Stand w.path w.slots (At p.store) → Inv p.store → (kd : Kind) → g.kind l ≡ kd → Solves m s n (walk_loop g kd body l c n w).steps → Matches s (walk_loop g kd body l c n w).given u
+          (p : Place) (u : Supply) → Stand w.path w.slots (At p.store) → Inv p.store → (kd : Kind) → g.kind l ≡ kd → Solves m s n (walk_loop g kd body l c n w).steps → Matches g.types.objects s (walk_loop g kd body l c n w).given u
           → NotStuck (Rattle.l2_supply.specs.Going.loop_with run heads l (λ d. tested_with (tests row lower g) l d (seen (λ w. (tt {0}, close w)) (turn d))) (on s c) u p)
           → Show (walk_loop g kd body l c n w) (allow (outs_of s fs) (way_of (Rattle.l2_supply.specs.Going.loop_with run heads l (λ d. tested_with (tests row lower g) l d (seen (λ w. (tt {0}, close w)) (turn d))) (on s c) u p)))
       loop_shows t same bs bh p u h inv Bottom e ok mt ns = enter_shows l body turn fs w.temps t same bs body_stops bh Bottom e c n w p u h inv ok mt ns
@@ -333,7 +333,7 @@ module _ (row : RowsOf) (lower : RanksOf) (s : Names) (g : Setting) (checks loop
 
     mutual
       node_shows : (x : Node) (fs : List Frame) (c : Operand) (n : ℕ) (w : Walk) (t : Temps) (p : Place) (u : Supply) (scope : Scope) → IsTypedNode (names row lower s g checks loops small there) scope x → IsClosedNode g.family x
-          → Begins m s g w (Standing t p) → Hold scope t → Inv p.store → Solves m s n (walk_node g x fs c n w).steps → Matches s (walk_node g x fs c n w).given u → NotStuck (node_with run (on s c) x t u p)
+          → Begins m s g w (Standing t p) → Hold scope t → Inv p.store → Solves m s n (walk_node g x fs c n w).steps → Matches g.types.objects s (walk_node g x fs c n w).given u → NotStuck (node_with run (on s c) x t u p)
           → Show (walk_node g x fs c n w) (allow (outs_of s fs) (node_with run (on s c) x t u p))
       node_shows (Do a) fs c n w t p u scope k z h hold inv ok mt ns = act_shows row lower s g checks loops small there heads (tests row lower g) fs c n w t p scope hold inv h a u k z ok mt ns
       node_shows (Block all) fs c n w t p u scope k z h hold inv ok mt ns =
@@ -347,7 +347,7 @@ module _ (row : RowsOf) (lower : RanksOf) (s : Names) (g : Setting) (checks loop
           p u h.stands inv (g.kind l) refl ok mt (first_unstuck _ _ ns)
 
       pub nodes_shows : (xs : Nodes) (fs : List Frame) (c : Operand) (n : ℕ) (w : Walk) (t : Temps) (p : Place) (u : Supply) (scope : Scope) → AreTyped (names row lower s g checks loops small there) scope xs → AreClosed g.family xs
-          → Begins m s g w (Standing t p) → Hold scope t → Inv p.store → Solves m s n (walk g xs fs c n w).steps → Matches s (walk g xs fs c n w).given u → NotStuck (nodes_with run (on s c) xs t u p)
+          → Begins m s g w (Standing t p) → Hold scope t → Inv p.store → Solves m s n (walk g xs fs c n w).steps → Matches g.types.objects s (walk g xs fs c n w).given u → NotStuck (nodes_with run (on s c) xs t u p)
           → Show (walk g xs fs c n w) (allow (outs_of s fs) (nodes_with run (on s c) xs t u p))
       nodes_shows none fs c n w t p u scope k z h hold inv ok mt ns = record { after = h; entries = tt; events = tt }
       nodes_shows (more x rest) fs c n w t p u scope k z h hold inv ok mt ns =

@@ -12,14 +12,16 @@ use Rattle.l2_code.specs.Sets.{Family, IsResolved}
 use Rattle.l2_code.specs.Modes.{Cut, types_of, mods_of, limit_of, run_code, start}
 use Rattle.l2_code.specs.WellFormed.{IsWellFormed}
 use Rattle.l2_supply.specs.Supply.{Supply, left, right, number_of, IsFailure}
-use Rattle.l2_ssa.specs.Steps.{Names, on, bit, Solves, IsBefore, InOrder}
+use Rattle.l2_runs.specs.Fits.{Layout}
+use Rattle.l2_runs.specs.Back.{pointer_of}
+use Rattle.l2_ssa.specs.Steps.{Names, on, bit, number_in, Solves, IsBefore, InOrder}
 use Rattle.std.specs.Ordering.{int_eq}
 use Rattle.l2_bits.specs.Values.{wrap}
 use Rattle.l2_runs.specs.declared.cells.CellValue.{CellValue}
 use Rattle.l2_runs.specs.declared.cells.CellValue.TheVariants.{Number}
 use Rattle.l2_runs.specs.Store.{Store, cell_at}
 use Rattle.l2_runs.specs.Loops.{Test, Tests, bottom}
-use Rattle.l2_ssa.specs.Walks.{Setting, Kind, Bottom, Plain, Rows, Goal, RowGoal, RankGoal, CheckGoal, Given, nothing, entering, chosen, taken, half, pair, Slot, Walk, Event, Out, T, F, past, walk}
+use Rattle.l2_ssa.specs.Walks.{Setting, Kind, Bottom, Plain, Rows, Goal, RowGoal, RankGoal, CheckGoal, Given, nothing, entering, chosen, taken, halves, pair, Slot, Walk, Event, Out, T, F, past, walk}
 
 -- what rows and rankings say of the values of a loop's variables
 abbrev pub RowsOf : Type 0
@@ -69,14 +71,15 @@ starts row g l store = starts_of row g (g.kind l) l store
 
 -- ---- the names that choices give
 
--- the names are those that a supply gives
-abbrev pub Matches : Names → Given → Supply → Type 0
-Matches s nothing u = Unit {0}
-Matches s entering u = int_eq (number_of u) (pos 0) ≡ true
-Matches s (chosen n) u = s n ≡ bit (not (int_eq (number_of u) (pos 0)))
-Matches s (taken n ty) u = s n ≡ Number (wrap ty (number_of u))
-Matches s (half n) u = s n ≡ Number (number_of u)
-Matches s (pair x y) u = Matches s x (left u) × Matches s y (right u)
+-- where their paths are true, the names are those that a supply gives, or give the pointer that it gives
+abbrev pub Matches : Layout → Names → Given → Supply → Type 0
+Matches cells s nothing u = Unit {0}
+Matches cells s entering u = int_eq (number_of u) (pos 0) ≡ true
+Matches cells s (chosen g n) u = on s g ≡ true → s n ≡ bit (not (int_eq (number_of u) (pos 0)))
+Matches cells s (taken g n ty) u = on s g ≡ true → s n ≡ Number (wrap ty (number_of u))
+Matches cells s (halves g n) u =
+    on s g ≡ true → pointer_of cells (number_in (s n)) (number_in (s (suc n))) ≡ pointer_of cells (number_of (left u)) (number_of (left (right u)))
+Matches cells s (pair x y) u = Matches cells s x (left u) × Matches cells s y (right u)
 
 -- ---- a code and its equations
 
@@ -84,9 +87,9 @@ abbrev pub loop_vars : Option CodeLoop → List ℕ
 loop_vars None = []
 loop_vars (Some l) = l.vars
 
--- the walk over a code with k copies of each turn, over these sets, where a loop is of this kind and no rankings are asked for
-abbrev pub setting_of : CodeTree → Family → ℕ → (ℕ → Kind) → Setting
-setting_of c f k kind = record {
+-- the walk over a code with k copies of each turn, over these sets, where a loop is of this kind; whether rankings are asked for
+abbrev pub setting_of : CodeTree → Family → ℕ → (ℕ → Kind) → Bool → Setting
+setting_of c f k kind ranks = record {
   copies = k;
   types = types_of c;
   objects = length c.objects;
@@ -94,7 +97,7 @@ setting_of c f k kind = record {
   mods = mods_of c;
   vars = λ l. loop_vars (at_number c.loops l);
   kind = kind;
-  ranks = false;
+  ranks = ranks;
 }
 
 abbrev pub constants : List CellValue → List Operand
@@ -113,8 +116,8 @@ abbrev pub first_walk : CodeTree → Walk
 first_walk c = record { path = T; temps = λ n. F; slots = first_slots c.objects }
 
 -- the equations of a code, with their events
-abbrev pub ssa : CodeTree → Family → ℕ → (ℕ → Kind) → Out
-ssa c f k kind = walk (setting_of c f k kind) c.body [] T 0 (first_walk c)
+abbrev pub ssa : CodeTree → Family → ℕ → (ℕ → Kind) → Bool → Out
+ssa c f k kind ranks = walk (setting_of c f k kind ranks) c.body [] T 0 (first_walk c)
 
 -- an event of this goal is true
 abbrev pub HasEvent : Names → Goal → List Event → Type 0
@@ -140,15 +143,15 @@ EndsAt e (Halt x s) = x ≡ e
 -- some choices make a cut run end at an event of this goal, whatever choices follow
 abbrev pub IsReached : CodeTree → Family → ℕ → RowsOf → RanksOf → (ℕ → Kind) → Goal → Type 0
 IsReached c f k row lower kind goal =
-    (choices : List ℤ) × ((rest : List ℤ) (turns : ℕ) → EndsAt (end_of (setting_of c f k kind) goal)
-    (run_code c (limit_of c f (Cut k (starts row (setting_of c f k kind)))) (tests row lower (setting_of c f k kind)) (start c (choices ++ rest) turns)))
+    (choices : List ℤ) × ((rest : List ℤ) (turns : ℕ) → EndsAt (end_of (setting_of c f k kind false) goal)
+    (run_code c (limit_of c f (Cut k (starts row (setting_of c f k kind false)))) (tests row lower (setting_of c f k kind false)) (start c (choices ++ rest) turns)))
 
 -- where names solve the equations of a well-formed code over its sets and an event is true, some cut run ends there
 abbrev pub SolutionsRun : Type 0
 SolutionsRun =
     (c : CodeTree) (f : Family) → IsWellFormed c → IsResolved c f → (k : ℕ) → 1 ≤ k → (kind : ℕ → Kind) (row : RowsOf) (lower : RanksOf) (s : Names)
-    → Solves (record { types = types_of c; row = row; lower = lower }) s 0 (ssa c f k kind).steps
-    → (goal : Goal) → HasEvent s goal (ssa c f k kind).events → IsReached c f k row lower kind goal
+    → Solves (record { types = types_of c; row = row; lower = lower }) s 0 (ssa c f k kind false).steps
+    → (goal : Goal) → HasEvent s goal (ssa c f k kind false).events → IsReached c f k row lower kind goal
 
 -- an event that stands for this end is true
 abbrev pub HasEnd : Names → Setting → End → List Event → Type 0
@@ -161,9 +164,9 @@ abbrev pub RunsSolve : Type 0
 RunsSolve =
     (c : CodeTree) (f : Family) → IsWellFormed c → IsResolved c f → (k : ℕ) → 1 ≤ k → (kind : ℕ → Kind) → ((l : ℕ) → kind l ≡ Plain → ⊥) → (row : RowsOf) (lower : RanksOf)
     → (choices : List ℤ) (turns : ℕ) (x : End) → IsFailure x
-    → EndsAt x (run_code c (limit_of c f (Cut k (starts row (setting_of c f k kind)))) (tests row lower (setting_of c f k kind)) (start c choices turns))
-    → (u : Supply) × ((s : Names) → Solves (record { types = types_of c; row = row; lower = lower }) s 0 (ssa c f k kind).steps → Matches s (ssa c f k kind).given u
-    → HasEnd s (setting_of c f k kind) x (ssa c f k kind).events)
+    → EndsAt x (run_code c (limit_of c f (Cut k (starts row (setting_of c f k kind false)))) (tests row lower (setting_of c f k kind false)) (start c choices turns))
+    → (u : Supply) × ((s : Names) → Solves (record { types = types_of c; row = row; lower = lower }) s 0 (ssa c f k kind false).steps → Matches (types_of c).objects s (ssa c f k kind false).given u
+    → HasEnd s (setting_of c f k kind false) x (ssa c f k kind false).events)
 
 abbrev pub EventsKnown : ℕ → List Event → Type 0
 EventsKnown n [] = Unit {0}
@@ -171,4 +174,6 @@ EventsKnown n (e ∷ es) = IsBefore n e.literal × EventsKnown n es
 
 -- each equation reads constants and names before its own, and events name equations
 abbrev pub StepsInOrder : Type 0
-StepsInOrder = (c : CodeTree) (f : Family) (k : ℕ) (kind : ℕ → Kind) → InOrder 0 (ssa c f k kind).steps × EventsKnown (past 0 (ssa c f k kind).steps) (ssa c f k kind).events
+StepsInOrder =
+    (c : CodeTree) (f : Family) (k : ℕ) (kind : ℕ → Kind) (ranks : Bool)
+    → InOrder 0 (ssa c f k kind ranks).steps × EventsKnown (past 0 (ssa c f k kind ranks).steps) (ssa c f k kind ranks).events

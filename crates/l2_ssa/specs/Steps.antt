@@ -78,6 +78,7 @@ looked_at (Passes (test.Null a)) = Some a
 looked_at (Passes (test.Invalid a)) = Some a
 looked_at (Passes (test.Cells x a)) = Some a
 looked_at (Passes (test.Move by a b)) = Some a
+looked_at (Passes (test.Same a b)) = Some a
 looked_at c = None
 
 -- what it looks into is in the set

@@ -1,10 +1,12 @@
 -- The walk over code that gives its equations. No step depends on what a circuit simplifies to.
-use Rattle.std.specs.Prelude.{ℕ, zero, suc, pos, Bool, true, false, List, [], ◌∷◌, ◌++◌, slice_index_or, slice_set, Option, Some, None, if◌then◌else◌, ◌==◌}
+use Rattle.std.specs.Prelude.{ℕ, zero, suc, pos, Bool, true, false, List, [], ◌∷◌, ◌++◌, slice_index_or, slice_set, Option, Some, None, if◌then◌else◌, ◌==◌, ◌&&◌}
+use Rattle.std.specs.Ordering.{int_eq}
 use Rattle.l2_bits.specs.declared.types.Ty.{Ty}
 use Rattle.l2_bits.specs.Types.{bool_type}
 use Rattle.l2_runs.specs.declared.cells.CellType.{CellType}
 use Rattle.l2_runs.specs.declared.cells.CellType.TheVariants.{Integer, Pointer}
-use Rattle.l2_runs.specs.declared.cells.CellValue.TheVariants.{Number, Null, At}
+use Rattle.l2_runs.specs.declared.cells.CellValue.{CellValue}
+use Rattle.l2_runs.specs.declared.cells.CellValue.TheVariants.{Number, Null, Invalid, At}
 use Rattle.l2_runs.specs.declared.member.Member.{Member}
 use Rattle.l2_runs.specs.declared.member.Member.TheVariants as member
 use Rattle.l2_runs.specs.Numbers.{at_number, set_number}
@@ -75,14 +77,14 @@ pub record Event : Type 0 where
   pub goal : Goal
   pub literal : Operand
 
--- the names that choices give, in the shape of a supply
+-- the names that choices give, with the paths on which they are asked for, in the shape of a supply
 pub data Given : Type 0 where
   nothing : Given
-  -- a loop is entered; whether a loop starts back; a number of a type; a selector or an offset
+  -- a loop is entered; whether a loop starts back; a number of a type; a selector, and the offset that is the next name
   entering : Given
-  chosen : ℕ → Given
-  taken : ℕ → Ty → Given
-  half : ℕ → Given
+  chosen : Operand → ℕ → Given
+  taken : Operand → ℕ → Ty → Given
+  halves : Operand → ℕ → Given
   pair : Given → Given → Given
 
 -- a walk from a name on: its steps take the names from there on
@@ -204,6 +206,7 @@ set_of_test f (test.Invalid a) = may_be f a
 set_of_test f (test.Live a) = may_be f a
 set_of_test f (test.Cells x a) = may_be f a
 set_of_test f (test.Move by a b) = may_be f a
+set_of_test f (test.Same a b) = may_be f a
 set_of_test f t = λ m. false
 
 abbrev pub set_of : Family → Computation → Member → Bool
@@ -309,7 +312,7 @@ abbrev pub walk_action : Setting → List Frame → Operand → ℕ → Walk →
 walk_action g fs c n w (action.Compute t x) = stepped (compute_step g w x ∷ []) (with_temp w t (Temp n))
 walk_action g fs c n w (action.Read t ty a) = let r = read_at g w ty a n in stepped r.steps (with_temp w t r.value)
 walk_action g fs c n w (action.Write ty a x) = let r = write_at g w ty a (now w x) n in stepped r.steps r.walk
-walk_action g fs c n w (action.Choice t ty) = record (stepped (Take w.path ty ∷ []) (with_temp w t (Temp n))) { given = taken n ty }
+walk_action g fs c n w (action.Choice t ty) = record (stepped (Take w.path ty ∷ []) (with_temp w t (Temp n))) { given = taken w.path n ty }
 walk_action g fs c n w (action.Assume a) = stepped (Both w.path (now w a) ∷ []) (with_path w (Temp n))
 walk_action g fs c n w (action.Check k a) = on_check g.ranks k c (now w a) n w
 walk_action g fs c n w (action.Unless a d) = on_unless fs d (now w a) n w
@@ -320,17 +323,42 @@ walk_action g fs c n w action.End = goes_on (with_path w F)
 
 -- ---- labels
 
+abbrev pub same_value : CellValue → CellValue → Bool
+same_value (Number a) (Number b) = int_eq a b
+same_value Null Null = true
+same_value Invalid Invalid = true
+same_value (At o f) (At p g) = (o == p) && (f == g)
+same_value x y = false
+
+abbrev pub same_operand : Operand → Operand → Bool
+same_operand (Constant v) (Constant w) = same_value v w
+same_operand (Temp n) (Temp m) = n == m
+same_operand a b = false
+
+-- what both paths bring alike stays as it is
+abbrev pub merge_step : Bool → Operand → Operand → CellType → Operand → Operand → List Step
+merge_step true g h t x y = []
+merge_step false g h t x y = Merge g h t x y ∷ []
+
+abbrev pub merged : Bool → ℕ → Operand → Operand
+merged true n x = x
+merged false n x = Temp n
+
+abbrev pub next_merge : Bool → ℕ → ℕ
+next_merge true n = n
+next_merge false n = suc n
+
 abbrev pub merge_cells : Operand → Operand → List CellType → List Operand → List Operand → List Step
 merge_cells g h [] xs ys = []
 merge_cells g h (t ∷ ts) [] ys = []
 merge_cells g h (t ∷ ts) (x ∷ xs) [] = []
-merge_cells g h (t ∷ ts) (x ∷ xs) (y ∷ ys) = Merge g h t x y ∷ merge_cells g h ts xs ys
+merge_cells g h (t ∷ ts) (x ∷ xs) (y ∷ ys) = merge_step (same_operand x y) g h t x y ++ merge_cells g h ts xs ys
 
 abbrev pub merged_cells : ℕ → List CellType → List Operand → List Operand → List Operand
 merged_cells n [] xs ys = []
 merged_cells n (t ∷ ts) [] ys = []
 merged_cells n (t ∷ ts) (x ∷ xs) [] = []
-merged_cells n (t ∷ ts) (x ∷ xs) (y ∷ ys) = Temp n ∷ merged_cells (suc n) ts xs ys
+merged_cells n (t ∷ ts) (x ∷ xs) (y ∷ ys) = merged (same_operand x y) n x ∷ merged_cells (next_merge (same_operand x y) n) ts xs ys
 
 -- the cells of the objects from a number on, then their flags
 abbrev pub merge_slots : Setting → Operand → Operand → ℕ → List Slot → List Slot → List Step
@@ -341,15 +369,15 @@ merge_slots g p h o (x ∷ xs) (y ∷ ys) = merge_cells p h (g.types.objects o) 
 abbrev pub merge_flags : Operand → Operand → List Slot → List Slot → List Step
 merge_flags p h [] ys = []
 merge_flags p h (x ∷ xs) [] = []
-merge_flags p h (x ∷ xs) (y ∷ ys) = Merge p h (Integer bool_type) x.live y.live ∷ merge_flags p h xs ys
+merge_flags p h (x ∷ xs) (y ∷ ys) = merge_step (same_operand x.live y.live) p h (Integer bool_type) x.live y.live ++ merge_flags p h xs ys
 
 -- n is the name of the first cell, m that of the first flag
 abbrev pub merged_slots : Setting → Operand → Operand → ℕ → ℕ → ℕ → List Slot → List Slot → List Slot
 merged_slots g p h n m o [] ys = []
 merged_slots g p h n m o (x ∷ xs) [] = []
 merged_slots g p h n m o (x ∷ xs) (y ∷ ys) =
-    record { cells = merged_cells n (g.types.objects o) x.cells y.cells; live = Temp m }
-    ∷ merged_slots g p h (past n (merge_cells p h (g.types.objects o) x.cells y.cells)) (suc m) (suc o) xs ys
+    record { cells = merged_cells n (g.types.objects o) x.cells y.cells; live = merged (same_operand x.live y.live) m x.live }
+    ∷ merged_slots g p h (past n (merge_cells p h (g.types.objects o) x.cells y.cells)) (next_merge (same_operand x.live y.live) m) (suc o) xs ys
 
 abbrev pub merge_if : Setting → ℕ → Entry → ℕ → Walk → Written
 merge_if g zero e n w =
@@ -388,12 +416,12 @@ at_label g temps n o =
 -- b says whether the loop starts back, p is the path at its head
 abbrev pub scatter_one : Setting → Operand → Operand → ℕ → ℕ → CellType → ℕ → Walk → Out
 scatter_one g p b o f (Integer ty) n w =
-    record (stepped (Take p ty ∷ Merge p b (Integer ty) (Temp n) (cell_at w.slots o f) ∷ []) (with_cell w o f (Temp (suc n)))) { given = taken n ty }
+    record (stepped (Take p ty ∷ Merge p b (Integer ty) (Temp n) (cell_at w.slots o f) ∷ []) (with_cell w o f (Temp (suc n)))) { given = taken p n ty }
 scatter_one g p b o f Pointer n w =
     record (stepped
     (Half p ∷ Half p ∷ Point p (Temp n) (Temp (suc n)) ∷ Merge p b Pointer (Temp (suc (suc n))) (cell_at w.slots o f)
     ∷ Among p (Temp n) (Temp (suc n)) (g.family.object o) ∷ But b (Temp (suc (suc (suc (suc n))))) ∷ But w.path (Temp (suc (suc (suc (suc (suc n)))))) ∷ [])
-    (with_path (with_cell w o f (Temp (suc (suc (suc n))))) (Temp (suc (suc (suc (suc (suc (suc n))))))))) { given = pair (half n) (pair (half (suc n)) nothing) }
+    (with_path (with_cell w o f (Temp (suc (suc (suc n))))) (Temp (suc (suc (suc (suc (suc (suc n))))))))) { given = halves p n }
 
 abbrev pub scatter_cells : Setting → Operand → Operand → ℕ → ℕ → List CellType → ℕ → Walk → Out
 scatter_cells g p b o f [] n w = goes_on w
@@ -493,7 +521,7 @@ walk_loop g (Rows rows) body l c n w =
     let n1 = past (suc n) s.steps in
     let h = head_rows g w.path (Temp n) l 1 rows n1 s.after in
     let o = walk_copies g body l (Rows rows) (Temp n) c w.temps g.copies (past n1 h.steps) h.walk in
-    record o { steps = Choose w.path ∷ (s.steps ++ (h.steps ++ o.steps)); given = pair (chosen n) (pair (pair s.given nothing) o.given) }
+    record o { steps = Choose w.path ∷ (s.steps ++ (h.steps ++ o.steps)); given = pair (chosen w.path n) (pair (pair s.given nothing) o.given) }
 
 -- ---- code
 
