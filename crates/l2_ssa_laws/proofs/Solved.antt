@@ -12,7 +12,7 @@ use Rattle.l2_code.specs.Sets.{Family, IsResolved}
 use Rattle.l2_code.specs.Modes.{Cut, types_of, first_store, start}
 use Rattle.l2_code.specs.WellFormed.{IsWellFormed, IsStuck, empty_scope}
 use Rattle.l2_code_laws.proofs.Starts.{small_objects, limits_hold}
-use Rattle.l2_supply.specs.Supply.{IsSupplied, place_of, Supply, Place, Come, Goes, Ends, Chosen}
+use Rattle.l2_supply.specs.Supply.{IsSupplied, place_of, Supply, left, right, Place, Come, Goes, Ends, Chosen}
 use Rattle.l2_supply.specs.Going as going
 use Rattle.l2_supply.specs.Going.{nodes_with, machine_of}
 use Rattle.l2_supply.proofs.Runs.{nodes_agree}
@@ -25,6 +25,7 @@ use Rattle.l2_ssa.proofs.Frames.{outs_of, allow, NotStuck}
 use Rattle.l2_ssa.proofs.Givens.{supply_of, match_own, nodes_given}
 use Rattle.l2_ssa.proofs.Solutions.{there_number, begins, temps_hold, stored, no_event, event_if}
 use Rattle.l2_ssa.proofs.Enters.{enter, Halted, Same, nodes_enter}
+use Rattle.l2_ssa_laws.specs.Entering.{Enters}
 use Rattle.l2_ssa_laws.specs.Rankings.{rows_at, watch_at, rank_tests, rank_setting, rank_ssa, SolvesRanks, CutEnds, CutReaches, IsWatch, RowsRun, RanksRun, RunsFall, NoneWatched}
 use Rattle.l2_ssa_laws.proofs.Shown.{keep, unranked, Quiet, AllQuiet, Shown}
 use Rattle.l2_ssa_laws.proofs.Ends.{app_nil}
@@ -177,6 +178,14 @@ module _ (c : CodeTree) (f : Family) (w : IsWellFormed c) (z : IsResolved c f) (
 
 -- ---- from runs
 
+pub enter_enters : (x : walks.Given) (u : Supply) → Enters x (enter x u)
+enter_enters walks.nothing u = tt
+enter_enters walks.entering u = refl
+enter_enters (walks.chosen g n) u = tt
+enter_enters (walks.taken g n ty) u = tt
+enter_enters (walks.halves g n) u = tt
+enter_enters (walks.pair x y) u = (enter_enters x (left u), enter_enters y (right u))
+
 fallen_goes_on : (l i : ℕ) (p : Place) → Halted {A = Way} (Ends (Fallen l i) p) → ⊥
 fallen_goes_on l i p h = h
 
@@ -214,12 +223,12 @@ module _ (c : CodeTree) (f : Family) (k0 : ℕ) (kind : ℕ → Kind) (no_plain 
   entered_is u p e (inl q) = sym q ∙ e
   entered_is u p e (inr h) = absurd (fallen_goes_on l i p (subst (λ (y : Come Way). Halted y) e h))
 
-  pub find_entered : (choices : List ℤ) (turns : ℕ) → CutEnds c f (suc k0) row kind (rank_tests row lower gg watched) choices turns (Fallen l i) → (u : Supply) × (p : Place) × (comes u ≡ Ends (Fallen l i) p)
+  pub find_entered : (choices : List ℤ) (turns : ℕ) → CutEnds c f (suc k0) row kind (rank_tests row lower gg watched) choices turns (Fallen l i) → (u : Supply) × Enters given u × ((p : Place) × (comes u ≡ Ends (Fallen l i) p))
   find_entered choices turns e =
       let d = find (machine.nodes (machine_of rr) true c.body no_temps (start c choices turns)) ((nodes_agree rr true c.body no_temps).by_choices (start c choices turns)) e in (
         enter given d.supply,
-        d.place,
-        entered_is d.supply d.place d.is (nodes_enter gg row (rank_tests row lower gg watched) k0 refl no_plain c.body [] walks.T 0 (first_walk c) true no_temps d.supply pp),
+        enter_enters given d.supply,
+        (d.place, entered_is d.supply d.place d.is (nodes_enter gg row (rank_tests row lower gg watched) k0 refl no_plain c.body [] walks.T 0 (first_walk c) true no_temps d.supply pp)),
       )
 
 pub rows_run : RowsRun
@@ -235,4 +244,4 @@ pub runs_fall : RunsFall
 runs_fall c f w z zero some kind no_plain row lower watched choices turns l i e = absurd (omega arith)
 runs_fall c f w z (suc k0) some kind no_plain row lower watched choices turns l i e =
     let d = find_entered c f k0 kind no_plain row lower watched l i choices turns e in
-    (d.0, λ s ok mt. fails c f w z k0 kind row lower watched s ok d.0 d.1 l i d.2 mt)
+    (d.0, d.1, λ s ok mt. fails c f w z k0 kind row lower watched s ok d.0 d.2.0 l i d.2.1 mt)

@@ -12,6 +12,7 @@ use Rattle.l2_code.specs.WellFormed.{IsWellFormed}
 use Rattle.l2_supply.specs.Supply.{Supply}
 use Rattle.l2_ssa.specs.Steps.{Names, Solves}
 use Rattle.l2_ssa.specs.Walks.{Setting, Kind, Bottom, Plain, Rows, RowGoal, RankGoal, Out}
+use Rattle.l2_ssa_laws.specs.Entering.{Enters}
 use Rattle.l2_ssa.specs.Law.{RowsOf, RanksOf, first_cells, row_tests, starts, setting_of, ssa, HasEvent, EndsAt, Matches}
 
 -- ---- tests
@@ -84,13 +85,13 @@ RanksRun =
     → SolvesRanks c f k row lower kind s → (watched : ℕ → Bool) (l : ℕ) → watched l ≡ true → HasEvent s (RankGoal l) (rank_ssa c f k kind).events
     → (m i : ℕ) × IsWatch kind watched m i × CutReaches c f k row kind (rank_tests row lower (rank_setting c f k kind) watched) (Fallen m i)
 
--- where a cut run ends at a row or the ranking of a watched loop, some values of the names that choices give make an event of it
--- true, in whatever way the equations are then solved
+-- where a cut run ends at a row or the ranking of a watched loop, some values of the names that choices give, which enter the loops
+-- without back starts, make an event of it true, in whatever way the equations are then solved
 abbrev pub RunsFall : Type 0
 RunsFall =
     (c : CodeTree) (f : Family) → IsWellFormed c → IsResolved c f → (k : ℕ) → 1 ≤ k → (kind : ℕ → Kind) → ((l : ℕ) → kind l ≡ Plain → ⊥) → (row : RowsOf) (lower : RanksOf) (watched : ℕ → Bool)
     → (choices : List ℤ) (turns l i : ℕ) → CutEnds c f k row kind (rank_tests row lower (rank_setting c f k kind) watched) choices turns (Fallen l i)
-    → (u : Supply) × ((s : Names) → SolvesRanks c f k row lower kind s → Matches (types_of c).objects s (rank_ssa c f k kind).given u
+    → (u : Supply) × Enters (rank_ssa c f k kind).given u × ((s : Names) → SolvesRanks c f k row lower kind s → Matches (types_of c).objects s (rank_ssa c f k kind).given u
     → HasEvent s (RowGoal l i) (rank_ssa c f k kind).events ⊎ (IsWatch kind watched l i × HasEvent s (RankGoal l) (rank_ssa c f k kind).events))
 
 -- runs that watch no loop test the rows alone
