@@ -1,0 +1,4 @@
+pub mod Goals
+pub mod Places
+pub mod Meanings
+pub mod Law
