@@ -10,6 +10,7 @@ use Rattle.l2_runs.specs.Fits.{Layout}
 use Rattle.l2_runs.specs.Members.{is_in}
 use Rattle.l2_runs.specs.Store.{Store}
 use Rattle.l2_runs.specs.Runs.{Over, Fallen, done, stop, either, write}
+use Rattle.l2_runs.specs.Loops.{Tests}
 use Rattle.l2_runs.specs.Back.{pointer_of, on_member}
 use Rattle.l2_code.specs.declared.action.Operand.{Operand}
 use Rattle.l2_code.specs.declared.action.Operand.TheVariants.{Temp}
@@ -23,7 +24,7 @@ use Rattle.l2_supply.specs.Going as going
 use Rattle.l2_supply.specs.Going.{Cut, any_with, cells_with, scatter_with, passing, back_with, tested_with, rounds_with, later_with, seen, loop_with, act_with, follow_with, node_with, nodes_with}
 use Rattle.l2_ssa.specs.Walks as walks
 use Rattle.l2_ssa.specs.Walks.{Setting, Walk, Frame, Given, nothing, entering, chosen, taken, halves, pair, Kind, Bottom, Plain, Rows, past, is_last, copy_frame, count_steps, count_name, scatter_one, scatter_cells, scatter, head_rows, end_turn, walk_copies, walk_loop, walk_action, walk_node, walk}
-use Rattle.l2_ssa.specs.Law.{RowsOf, RanksOf, tests, starts, starts_of}
+use Rattle.l2_ssa.specs.Law.{RowsOf, starts, starts_of}
 use Rattle.l2_ssa.proofs.Copies.{counts, leaves, pass, turns, entry_turns, back_turns}
 
 -- the same supply, but that loops without back starts are entered
@@ -135,16 +136,16 @@ module _ (g : Setting) where
       let x = scatter_cells g p b o 0 (g.types.objects o) n w in
       λ i. on_goes (cells_enter p b o 0 (g.types.objects o) n w (left u) q i) (λ v z. scatter_enter p b os (past n x.steps) x.after (right u) z i)
 
-  module _ (row : RowsOf) (lower : RanksOf) (k0 : ℕ) (copies : g.copies ≡ suc k0) where
+  module _ (row : RowsOf) (ts : Tests) (k0 : ℕ) (copies : g.copies ≡ suc k0) where
     abbrev run : going.Setting
-    run = record { heads = Cut (suc k0) (starts row g); tests = tests row lower g; types = g.types; sets = g.family.object; mods = g.mods }
+    run = record { heads = Cut (suc k0) (starts row g); tests = ts; types = g.types; sets = g.family.object; mods = g.mods }
 
     -- ---- loops
 
     module _ (l : ℕ) (body : Frame → Operand → ℕ → Walk → walks.Out) (turn : Bool → Supplied Way)
         (turn_enter : (f : Frame) (d : Operand) (n : ℕ) (w : Walk) (D : Bool) (v : Supply) (p : Place) → Same (turn D v p) (turn D (enter (body f d n w).given v) p)) where
       abbrev q : Bool → Supplied (Unit {0} × Option ℕ)
-      q d = tested_with (tests row lower g) l d (seen (λ w. (tt {0}, close w)) (turn d))
+      q d = tested_with (ts) l d (seen (λ w. (tt {0}, close w)) (turn d))
 
       pass_enter : (lv : Bool) (next : Supplied (Unit {0} × ℕ)) (v v' : Supply) → ((p : Place) → Same (next v p) (next v' p)) → (x : Unit {0} × Option ℕ) (p : Place) → Same (pass lv next x v p) (pass lv next x v' p)
       pass_enter true next v v' h (y, None) p = h p
@@ -225,8 +226,8 @@ module _ (g : Setting) where
       loop_enter : (l : ℕ) (body : Frame → Operand → ℕ → Walk → walks.Out) (turn : Bool → Supplied Way)
           → ((f : Frame) (d : Operand) (n : ℕ) (w : Walk) (D : Bool) (v : Supply) (p : Place) → Same (turn D v p) (turn D (enter (body f d n w).given v) p))
           → (kd : Kind) → g.kind l ≡ kd → (c : Operand) (n : ℕ) (w : Walk) (B : Bool) (u : Supply) (p : Place)
-          → Same (loop_with run (Cut (suc k0) (starts row g)) l (λ d. tested_with (tests row lower g) l d (seen (λ w. (tt {0}, close w)) (turn d))) B u p)
-          (loop_with run (Cut (suc k0) (starts row g)) l (λ d. tested_with (tests row lower g) l d (seen (λ w. (tt {0}, close w)) (turn d))) B (enter (walk_loop g kd body l c n w).given u) p)
+          → Same (loop_with run (Cut (suc k0) (starts row g)) l (λ d. tested_with (ts) l d (seen (λ w. (tt {0}, close w)) (turn d))) B u p)
+          (loop_with run (Cut (suc k0) (starts row g)) l (λ d. tested_with (ts) l d (seen (λ w. (tt {0}, close w)) (turn d))) B (enter (walk_loop g kd body l c n w).given u) p)
       loop_enter l body turn h Bottom e c n w B u p = bottom_enter l body turn h e c n w B u p
       loop_enter l body turn h Plain e c n w B u p = absurd (no_plain l e)
       loop_enter l body turn h (Rows r) e c n w B u p = rows_enter l body turn h r c n w B u p
@@ -258,8 +259,8 @@ module _ (g : Setting) where
         node_enter (Block all) fs c n w B t u p =
             then_same (nodes_with run B all t u p) (nodes_with run B all t (enter (walk g all (walks.Block ∷ fs) c n w).given u) p) _ _ (nodes_enter all (walks.Block ∷ fs) c n w B t u p) (λ a z. inl refl)
         node_enter (Loop l all) fs c n w B t u p =
-            then_same (loop_with run (Cut (suc k0) (starts row g)) l (λ d. tested_with (tests row lower g) l d (seen (λ w. (tt {0}, close w)) (nodes_with run d all t))) B u p)
-            (loop_with run (Cut (suc k0) (starts row g)) l (λ d. tested_with (tests row lower g) l d (seen (λ w. (tt {0}, close w)) (nodes_with run d all t))) B (enter (walk_node g (Loop l all) fs c n w).given u) p)
+            then_same (loop_with run (Cut (suc k0) (starts row g)) l (λ d. tested_with (ts) l d (seen (λ w. (tt {0}, close w)) (nodes_with run d all t))) B u p)
+            (loop_with run (Cut (suc k0) (starts row g)) l (λ d. tested_with (ts) l d (seen (λ w. (tt {0}, close w)) (nodes_with run d all t))) B (enter (walk_node g (Loop l all) fs c n w).given u) p)
             (λ r z. Goes (Out r.1) z) (λ r z. Goes (Out r.1) z)
             (loop_enter l (λ f d k v. walk g all (f ∷ fs) d k v) (λ d. nodes_with run d all t) (λ f d k w D v z. nodes_enter all (f ∷ fs) d k w D t v z) (g.kind l) refl c n w B u p) (λ a z. inl refl)
 

@@ -36,7 +36,7 @@ there_get [] i h = absurd (omega (arith, h))
 there_get (x ∷ xs) zero h = omega arith
 there_get (x ∷ xs) (suc i) h = let k = there_get xs i h in omega arith
 
-there_number : (xs : List CodeObject) (o : ℕ) → 0 < length (object_cells (at_number xs o)) → (1 ≤ o) × (o < 1 + length xs)
+pub there_number : (xs : List CodeObject) (o : ℕ) → 0 < length (object_cells (at_number xs o)) → (1 ≤ o) × (o < 1 + length xs)
 there_number xs zero h = absurd (omega (arith, h))
 there_number xs (suc i) h = let k = there_get xs i h in (omega arith, omega arith)
 
@@ -69,7 +69,7 @@ module _ (m : Meaning) (s : Names) (g : Setting) where
 
   -- ---- events
 
-  no_event : (goal : Goal) (es : List Event) → AllFalse m s g es → HasEvent s goal es → ⊥
+  pub no_event : (goal : Goal) (es : List Event) → AllFalse m s g es → HasEvent s goal es → ⊥
   no_event goal [] h k = k
   no_event goal (e ∷ es) h (inl k) = let a = k.1 in let b = h.0 in cc
   no_event goal (e ∷ es) h (inr k) = no_event goal es h.1 k
@@ -81,7 +81,7 @@ module _ (m : Meaning) (s : Names) (g : Setting) where
   one_event goal x (e ∷ es) (inr h) (inl k) = let a = k.1 in let b = h.0 in cc
   one_event goal x (e ∷ es) (inr h) (inr k) = one_event goal x es h.1 k
 
-  event_if : (b : Bool) (goal : Goal) (x : End) (es : List Event) → OneIf m s g b x es → HasEvent s goal es → x ≡ end_of g goal
+  pub event_if : (b : Bool) (goal : Goal) (x : End) (es : List Event) → OneIf m s g b x es → HasEvent s goal es → x ≡ end_of g goal
   event_if true goal x es h k = one_event goal x es h k
   event_if false goal x es h k = absurd (no_event goal es h k)
 
@@ -94,7 +94,7 @@ module _ (c : CodeTree) (f : Family) (w : IsWellFormed c) (z : IsResolved c f) (
   abbrev m : Meaning
   m = record { types = types_of c; row = row; lower = lower }
 
-  abbrev there : (o : ℕ) → 0 < length ((types_of c).objects o) → (1 ≤ o) × (o < 1 + length c.objects)
+  abbrev pub there : (o : ℕ) → 0 < length ((types_of c).objects o) → (1 ≤ o) × (o < 1 + length c.objects)
   there o h = there_number c.objects o h
 
   abbrev the_run : Rattle.l2_supply.specs.Going.Setting
@@ -121,13 +121,13 @@ module _ (c : CodeTree) (f : Family) (w : IsWellFormed c) (z : IsResolved c f) (
       one_more : suc i ≡ 1 + i
       one_more = omega arith
 
-  begins : Begins m s g (first_walk c) (Standing no_temps p0)
+  pub begins : Begins m s g (first_walk c) (Standing no_temps p0)
   begins = record { stands = (refl, first_sized m s g c.objects 1 sized, first_reads m s g c.objects); temps = λ n. refl }
 
-  temps_hold : TempsHold (types_of c).objects f empty_scope no_temps
+  pub temps_hold : TempsHold (types_of c).objects f empty_scope no_temps
   temps_hold = record { sets = λ n x e. cc; types = λ n. tt }
 
-  stored : StoreHolds (types_of c).objects f (first_store c)
+  pub stored : StoreHolds (types_of c).objects f (first_store c)
   stored = start_holds (types_of c).objects f (small_objects c w) (λ n o e. has_cell (at_number c.objects o) (z.over.objects n o e)) c.objects (λ n. refl) (λ n o e. (w.objects n o e, z.closed.objects n o e))
 
   module _ (ok : Solves m s 0 (ssa c f (suc k0) kind false).steps) (goal : Goal) (ev : HasEvent s goal (ssa c f (suc k0) kind false).events) where
@@ -219,7 +219,7 @@ module _ (c : CodeTree) (f : Family) (w : IsWellFormed c) (z : IsResolved c f) (
       let given = (ssa c f (suc k0) kind false).given in (
         enter given d.supply,
         λ s ok mt. shown s (enter given d.supply) d.place
-            (entered_is d.supply d.place d.is (nodes_enter gg row lower k0 refl no_plain c.body [] walks.T 0 (first_walk c) true no_temps d.supply pp)) ok mt,
+            (entered_is d.supply d.place d.is (nodes_enter gg row (tests row lower gg) k0 refl no_plain c.body [] walks.T 0 (first_walk c) true no_temps d.supply pp)) ok mt,
       )
 
 pub runs_solve : RunsSolve

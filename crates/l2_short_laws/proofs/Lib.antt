@@ -1,0 +1,3 @@
+pub mod Likes
+pub mod Entered
+pub mod Breaking

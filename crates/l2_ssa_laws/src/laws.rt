@@ -1,0 +1,25 @@
+//! What holds of a code's equations and its runs: functions without effect whose contracts are the laws.
+ghost use Rattle.l2_ssa_laws.specs.Rankings.{RowsRun, RanksRun, RunsFall, NoneWatched};
+
+/// Where names solve the equations of a well-formed code with rankings and an event of a row is true, some cut run that tests the rows
+/// alone ends at that row.
+pub fn rows_run()
+    ensures { RowsRun }
+{}
+
+/// Where an event of a watched loop's ranking is true, some cut run that tests the rows, and behind them the rankings of the watched
+/// loops where turns count, ends at the ranking of a watched loop: with one loop watched, at its ranking.
+pub fn ranks_run()
+    ensures { RanksRun }
+{}
+
+/// Where such a cut run ends at a row or at a ranking, some values of the names that choices give make an event of it true, in
+/// whatever way the equations are then solved.
+pub fn runs_fall()
+    ensures { RunsFall }
+{}
+
+/// Runs that watch no loop test the rows alone.
+pub fn none_watched()
+    ensures { NoneWatched }
+{}
