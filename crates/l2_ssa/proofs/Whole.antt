@@ -44,7 +44,7 @@ module _ (row : RowsOf) (lower : RanksOf) (s : Names) (g : Setting) (checks loop
   abbrev pub run : Rattle.l2_supply.specs.Going.Setting
   run = instructions.run row lower s g checks loops small there heads (tests row lower g)
 
-  abbrev Inv : Store → Type 0
+  abbrev pub Inv : Store → Type 0
   Inv store = StoreHolds g.types.objects g.family store
 
   abbrev Stand : Operand → List walks.Slot → Spot → Type 0
@@ -56,7 +56,7 @@ module _ (row : RowsOf) (lower : RanksOf) (s : Names) (g : Setting) (checks loop
   abbrev Stop : walks.Out → Type 0
   Stop o = Stops m s g o
 
-  abbrev Hold : Scope → Temps → Type 0
+  abbrev pub Hold : Scope → Temps → Type 0
   Hold scope t = Held row lower s g checks loops small there scope t
 
   stop_show : (o : walks.Out) (p : Place) → Stop o → Show o (Ends (Over Stopped) p)
@@ -64,7 +64,7 @@ module _ (row : RowsOf) (lower : RanksOf) (s : Names) (g : Setting) (checks loop
 
   -- ---- what runs keep
 
-  abbrev KnownCome : Scope → Come Way → Type 0
+  abbrev pub KnownCome : Scope → Come Way → Type 0
   KnownCome scope (Goes w p) = WayHolds g.types.objects g.family scope w × Inv p.store
   KnownCome scope (Ends e p) = Unit {0}
 
@@ -77,19 +77,19 @@ module _ (row : RowsOf) (lower : RanksOf) (s : Names) (g : Setting) (checks loop
   unit_known r p (Ends e q) h inv c = tt
 
   module _ (limits : LimitPreserves Inv (limit_of run heads)) where
-    node_known : (b : Bool) (x : Node) (scope : Scope) (t : Temps) (u : Supply) (p : Place) → IsTypedNode (names row lower s g checks loops small there) scope x → IsClosedNode g.family x → Hold scope t → Inv p.store
+    pub node_known : (b : Bool) (x : Node) (scope : Scope) (t : Temps) (u : Supply) (p : Place) → IsTypedNode (names row lower s g checks loops small there) scope x → IsClosedNode g.family x → Hold scope t → Inv p.store
         → KnownCome (behind_node scope x) (node_with run b x t u p)
     node_known b x scope t u p k z h inv =
         come_known (behind_node scope x) (machine.node (machine_of run) b x t) p (node_with run b x t u p)
         (held.node_holds (names row lower s g checks loops small there) g.family small (machine_of run) refl limits b x scope t k z h) inv ((node_agrees run b x t).by_supply p u)
 
-    nodes_known : (b : Bool) (xs : Nodes) (scope : Scope) (t : Temps) (u : Supply) (p : Place) → AreTyped (names row lower s g checks loops small there) scope xs → AreClosed g.family xs → Hold scope t → Inv p.store
+    pub nodes_known : (b : Bool) (xs : Nodes) (scope : Scope) (t : Temps) (u : Supply) (p : Place) → AreTyped (names row lower s g checks loops small there) scope xs → AreClosed g.family xs → Hold scope t → Inv p.store
         → KnownCome (behind_nodes scope xs) (nodes_with run b xs t u p)
     nodes_known b xs scope t u p k z h inv =
         come_known (behind_nodes scope xs) (machine.nodes (machine_of run) b xs t) p (nodes_with run b xs t u p)
         (held.nodes_hold (names row lower s g checks loops small there) g.family small (machine_of run) refl limits b xs scope t k z h) inv ((nodes_agree run b xs t).by_supply p u)
 
-    way_known : (scope : Scope) (e : Come Way) → KnownCome scope e → ComeHolds Inv e
+    pub way_known : (scope : Scope) (e : Come Way) → KnownCome scope e → ComeHolds Inv e
     way_known scope (Goes w p) h = h.1
     way_known scope (Ends e p) h = tt
 
@@ -316,14 +316,14 @@ module _ (row : RowsOf) (lower : RanksOf) (s : Names) (g : Setting) (checks loop
     -- ---- code
 
     mutual
-      node_stop : (x : Node) (fs : List Frame) (c : Operand) (n : ℕ) (w : Walk) → Stand w.path w.slots Off → Solves m s n (walk_node g x fs c n w).steps → Stop (walk_node g x fs c n w)
+      pub node_stop : (x : Node) (fs : List Frame) (c : Operand) (n : ℕ) (w : Walk) → Stand w.path w.slots Off → Solves m s n (walk_node g x fs c n w).steps → Stop (walk_node g x fs c n w)
       node_stop (Do a) fs c n w h ok = act_stops row lower s g checks loops small there heads (tests row lower g) fs c n w h a ok
       node_stop (Block all) fs c n w h ok =
           label_stops m s g w.temps n (walk g all (walks.Block ∷ fs) c n w) ok (nodes_stop all (walks.Block ∷ fs) c n w h (solves_first m s g n (walk g all (walks.Block ∷ fs) c n w).steps _ ok))
       node_stop (Loop l all) fs c n w h ok =
           loop_stop l (λ f d k v. walk g all (f ∷ fs) d k v) (λ d u p. Ends (Over Stopped) p) fs c n w (λ f d k v h ok. nodes_stop all (f ∷ fs) d k v h ok) h (g.kind l) refl ok
 
-      nodes_stop : (xs : Nodes) (fs : List Frame) (c : Operand) (n : ℕ) (w : Walk) → Stand w.path w.slots Off → Solves m s n (walk g xs fs c n w).steps → Stop (walk g xs fs c n w)
+      pub nodes_stop : (xs : Nodes) (fs : List Frame) (c : Operand) (n : ℕ) (w : Walk) → Stand w.path w.slots Off → Solves m s n (walk g xs fs c n w).steps → Stop (walk g xs fs c n w)
       nodes_stop none fs c n w h ok = record { after = h; entries = tt; events = tt }
       nodes_stop (more x rest) fs c n w h ok =
           let o = walk_node g x fs c n w in
@@ -332,7 +332,7 @@ module _ (row : RowsOf) (lower : RanksOf) (s : Names) (g : Setting) (checks loop
           joined_stops m s g (pair o.given p.given) o p so (nodes_stop rest fs c (past n o.steps) o.after so.after (solves_second m s g n o.steps _ ok))
 
     mutual
-      node_shows : (x : Node) (fs : List Frame) (c : Operand) (n : ℕ) (w : Walk) (t : Temps) (p : Place) (u : Supply) (scope : Scope) → IsTypedNode (names row lower s g checks loops small there) scope x → IsClosedNode g.family x
+      pub node_shows : (x : Node) (fs : List Frame) (c : Operand) (n : ℕ) (w : Walk) (t : Temps) (p : Place) (u : Supply) (scope : Scope) → IsTypedNode (names row lower s g checks loops small there) scope x → IsClosedNode g.family x
           → Begins m s g w (Standing t p) → Hold scope t → Inv p.store → Solves m s n (walk_node g x fs c n w).steps → Matches g.types.objects s (walk_node g x fs c n w).given u → NotStuck (node_with run (on s c) x t u p)
           → Show (walk_node g x fs c n w) (allow (outs_of s fs) (node_with run (on s c) x t u p))
       node_shows (Do a) fs c n w t p u scope k z h hold inv ok mt ns = act_shows row lower s g checks loops small there heads (tests row lower g) fs c n w t p scope hold inv h a u k z ok mt ns

@@ -1,0 +1,5 @@
+pub mod Lengths
+pub mod Making
+pub mod Showing
+pub mod Testing
+pub mod Overflows

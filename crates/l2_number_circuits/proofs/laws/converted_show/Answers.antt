@@ -1,0 +1,5 @@
+use Rattle.l2_number_circuits.proofs.Showing as lemmas
+use Rattle.l2_number_circuits.proofs.laws.converted_show.Goals as goal
+
+pub returns : goal.returns
+returns c = lemmas.converted_show

@@ -1,0 +1,5 @@
+use Rattle.l2_number_circuits.proofs.Lengths as lemmas
+use Rattle.l2_number_circuits.proofs.laws.numbers_have_lengths.Goals as goal
+
+pub returns : goal.returns
+returns c = lemmas.numbers_have_lengths

@@ -1,0 +1,13 @@
+pub mod Bits
+pub mod Halves
+pub mod Values
+pub mod Anys
+pub mod Shown
+pub mod Sets
+pub mod Cells
+pub mod Testing
+pub mod Moves
+pub mod Operators
+pub mod Making
+pub mod Codes
+pub mod Loops
