@@ -103,7 +103,7 @@ module _ (c : CodeTree) (f : Family) (w : IsWellFormed c) (z : IsResolved c f) (
     event_of s e q j h = check_true m s g i (short_ssa c f (suc k0)).events (subst (λ y. Shows m s g (short_ssa c f (suc k0)) (allow (outs_of s []) y)) j h).events
 
     solve : (choices : List ℤ) (turns : ℕ) → EndsAt broken (short_run c f (suc k0) choices turns)
-        → (u : Supply) × Rattle.l2_ssa_laws.specs.Entering.Enters (short_ssa c f (suc k0)).given u
+        → (u : Supply) × Rattle.l2_ssa_laws.specs.Entering.Enters (types_of c).objects (short_ssa c f (suc k0)).given u
         × ((s : Names) → SolvesShort c f (suc k0) row lower s → Matches (types_of c).objects s (short_ssa c f (suc k0)).given u → HasEvent s (CheckGoal i) (short_ssa c f (suc k0)).events)
     solve choices turns e =
         let d = find (machine.nodes (machine_of base) true c.body no_temps (start c choices turns)) ((nodes_agree base true c.body no_temps).by_choices (start c choices turns)) e in

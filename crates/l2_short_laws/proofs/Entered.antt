@@ -11,11 +11,11 @@ use Rattle.l2_ssa_laws.specs.Entering.{Enters}
 use Rattle.l2_short_laws.proofs.Likes.{turns_enter, node_enters, nodes_enters}
 
 module _ (g : Setting) (plain : (l : ℕ) → g.kind l ≡ Plain) where
-  check_entered : (rk : Bool) (k : ℕ) (c a : Operand) (n : ℕ) (w : Walk) (u : Supply) → Enters (walks.on_check rk k c a n w).given u
+  check_entered : (rk : Bool) (k : ℕ) (c a : Operand) (n : ℕ) (w : Walk) (u : Supply) → Enters g.types.objects (walks.on_check rk k c a n w).given u
   check_entered true k c a n w u = tt
   check_entered false k c a n w u = tt
 
-  act_entered : (fs : List Frame) (c : Operand) (n : ℕ) (w : Walk) (a : Action) (u : Supply) → Enters (walk_action g fs c n w a).given u
+  act_entered : (fs : List Frame) (c : Operand) (n : ℕ) (w : Walk) (a : Action) (u : Supply) → Enters g.types.objects (walk_action g fs c n w a).given u
   act_entered fs c n w (action.Compute i x) u = tt
   act_entered fs c n w (action.Read i ty a) u = tt
   act_entered fs c n w (action.Write ty a x) u = tt
@@ -28,8 +28,8 @@ module _ (g : Setting) (plain : (l : ℕ) → g.kind l ≡ Plain) where
   act_entered fs c n w (action.Dead o) u = tt
   act_entered fs c n w action.End u = tt
 
-  copies_entered : (l : ℕ) (body : Frame → Operand → ℕ → Walk → walks.Out) (f : Supply → Supply) → ((fr : Frame) (d : Operand) (n : ℕ) (w : Walk) (u : Supply) → Enters (body fr d n w).given (f u))
-      → (kind : Kind) (b c : Operand) (temps : ℕ → Operand) (k n : ℕ) (w : Walk) (u : Supply) → Enters (walk_copies g body l kind b c temps k n w).given (turns_enter f k u)
+  copies_entered : (l : ℕ) (body : Frame → Operand → ℕ → Walk → walks.Out) (f : Supply → Supply) → ((fr : Frame) (d : Operand) (n : ℕ) (w : Walk) (u : Supply) → Enters g.types.objects (body fr d n w).given (f u))
+      → (kind : Kind) (b c : Operand) (temps : ℕ → Operand) (k n : ℕ) (w : Walk) (u : Supply) → Enters g.types.objects (walk_copies g body l kind b c temps k n w).given (turns_enter f k u)
   copies_entered l body f h kind b c temps zero n w u = tt
   copies_entered l body f h kind b c temps (suc k) n w u =
       let x = count_steps (is_last k) w.path b c in
@@ -39,19 +39,19 @@ module _ (g : Setting) (plain : (l : ℕ) → g.kind l ≡ Plain) where
       let et = end_turn g kind d l w.slots n1 o.after in
       (h (copy_frame (is_last k) b) d (past n x) (record w { temps = temps }) (right (left u)), copies_entered l body f h kind b c temps k (past n1 et.steps) et.after (right u))
 
-  loop_entered : (l : ℕ) (body : Frame → Operand → ℕ → Walk → walks.Out) (f : Supply → Supply) → ((fr : Frame) (d : Operand) (n : ℕ) (w : Walk) (u : Supply) → Enters (body fr d n w).given (f u))
-      → (kind : Kind) → kind ≡ Plain → (c : Operand) (n : ℕ) (w : Walk) (u : Supply) → Enters (walk_loop g kind body l c n w).given (two (one (pos 0)) (two nil (turns_enter f g.copies u)))
+  loop_entered : (l : ℕ) (body : Frame → Operand → ℕ → Walk → walks.Out) (f : Supply → Supply) → ((fr : Frame) (d : Operand) (n : ℕ) (w : Walk) (u : Supply) → Enters g.types.objects (body fr d n w).given (f u))
+      → (kind : Kind) → kind ≡ Plain → (c : Operand) (n : ℕ) (w : Walk) (u : Supply) → Enters g.types.objects (walk_loop g kind body l c n w).given (two (one (pos 0)) (two nil (turns_enter f g.copies u)))
   loop_entered l body f h kind e c n w u =
-      subst (λ kd. Enters (walk_loop g kd body l c n w).given (two (one (pos 0)) (two nil (turns_enter f g.copies u)))) (sym e)
+      subst (λ kd. Enters g.types.objects (walk_loop g kd body l c n w).given (two (one (pos 0)) (two nil (turns_enter f g.copies u)))) (sym e)
       (refl, (tt, copies_entered l body f h Plain walks.F c w.temps g.copies n w u))
 
   mutual
-    node_entered : (x : Node) (fs : List Frame) (c : Operand) (n : ℕ) (w : Walk) (u : Supply) → Enters (walk_node g x fs c n w).given (node_enters g.copies x u)
+    node_entered : (x : Node) (fs : List Frame) (c : Operand) (n : ℕ) (w : Walk) (u : Supply) → Enters g.types.objects (walk_node g x fs c n w).given (node_enters g.copies x u)
     node_entered (Do a) fs c n w u = act_entered fs c n w a u
     node_entered (Block all) fs c n w u = nodes_entered all (walks.Block ∷ fs) c n w u
     node_entered (Loop l all) fs c n w u = loop_entered l (λ f d k v. walk g all (f ∷ fs) d k v) (nodes_enters g.copies all) (λ f d k v z. nodes_entered all (f ∷ fs) d k v z) (g.kind l) (plain l) c n w u
 
-    pub nodes_entered : (xs : Nodes) (fs : List Frame) (c : Operand) (n : ℕ) (w : Walk) (u : Supply) → Enters (walk g xs fs c n w).given (nodes_enters g.copies xs u)
+    pub nodes_entered : (xs : Nodes) (fs : List Frame) (c : Operand) (n : ℕ) (w : Walk) (u : Supply) → Enters g.types.objects (walk g xs fs c n w).given (nodes_enters g.copies xs u)
     nodes_entered none fs c n w u = tt
     nodes_entered (more x rest) fs c n w u =
         let o = walk_node g x fs c n w in

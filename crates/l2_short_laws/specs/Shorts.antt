@@ -32,5 +32,5 @@ abbrev pub ShortsSolve : Type 0
 ShortsSolve =
     (c : CodeTree) (f : Family) → IsWellFormed c → IsResolved c f → (k : ℕ) → 1 ≤ k → (row : RowsOf) (lower : RanksOf) (choices : List ℤ) (turns i : ℕ)
     → EndsAt (Over (Broken i)) (short_run c f k choices turns)
-    → (u : Supply) × Enters (short_ssa c f k).given u × ((s : Names) → SolvesShort c f k row lower s → Matches (types_of c).objects s (short_ssa c f k).given u
+    → (u : Supply) × Enters (types_of c).objects (short_ssa c f k).given u × ((s : Names) → SolvesShort c f k row lower s → Matches (types_of c).objects s (short_ssa c f k).given u
     → HasEvent s (CheckGoal i) (short_ssa c f k).events)

@@ -1,6 +1,6 @@
 -- The solutions of a code's equations with rankings are its cut runs that watch them.
-use Rattle.std.proofs.Common.{arith, ◌≡◌, ◌⊎◌, inl, inr, ℕ, zero, suc, Bool, true, false, refl, sym, ap, ◌∙◌, subst, List, [], ◌∷◌, ◌++◌, length, ℤ}
-use Rattle.l2_runs.specs.declared.outcome.Outcome.TheVariants.{Stopped, Broken}
+use Rattle.std.proofs.Common.{arith, ◌≡◌, ◌⊎◌, inl, inr, ℕ, zero, suc, Bool, true, false, refl, sym, ap, ◌∙◌, subst, List, [], ◌∷◌, ◌++◌, length}
+use Rattle.l2_runs.specs.declared.outcome.Outcome.TheVariants.{Broken}
 use Rattle.l2_runs.specs.Runs.{End, Over, Fallen, Result, Go, Halt, on_go, stop}
 use Rattle.l2_runs.specs.Loops.{Tests}
 use Rattle.l2_run_laws.specs.Watches.{alone, with_watches}
@@ -9,10 +9,10 @@ use Rattle.l2_code.specs.Values.{no_temps}
 use Rattle.l2_code.specs.Machine.{Way, On, Out}
 use Rattle.l2_code.specs.Machine as machine
 use Rattle.l2_code.specs.Sets.{Family, IsResolved}
-use Rattle.l2_code.specs.Modes.{Cut, types_of, first_store, start}
+use Rattle.l2_code.specs.Modes.{Cut, types_of, first_store}
 use Rattle.l2_code.specs.WellFormed.{IsWellFormed, IsStuck, empty_scope}
 use Rattle.l2_code_laws.proofs.Starts.{small_objects, limits_hold}
-use Rattle.l2_supply.specs.Supply.{IsSupplied, place_of, Supply, left, right, Place, Come, Goes, Ends, Chosen}
+use Rattle.l2_supply.specs.Supply.{Supply, Place, Come, Goes, Ends, Chosen}
 use Rattle.l2_supply.specs.Going as going
 use Rattle.l2_supply.specs.Going.{nodes_with, machine_of}
 use Rattle.l2_supply.proofs.Runs.{nodes_agree}
@@ -24,12 +24,11 @@ use Rattle.l2_ssa.proofs.Shows.{OneTrue, is_shown, Begins, Standing}
 use Rattle.l2_ssa.proofs.Frames.{outs_of, allow, NotStuck}
 use Rattle.l2_ssa.proofs.Givens.{supply_of, match_own, nodes_given}
 use Rattle.l2_ssa.proofs.Solutions.{there_number, begins, temps_hold, stored, no_event, event_if}
-use Rattle.l2_ssa.proofs.Enters.{enter, Halted, Same, nodes_enter}
-use Rattle.l2_ssa_laws.specs.Entering.{Enters}
-use Rattle.l2_ssa_laws.specs.Rankings.{rows_at, watch_at, rank_tests, rank_setting, rank_ssa, SolvesRanks, CutEnds, CutReaches, IsWatch, RowsRun, RanksRun, RunsFall, NoneWatched}
+use Rattle.l2_ssa_laws.specs.Rankings.{rows_at, watch_at, rank_tests, rank_setting, rank_ssa, SolvesRanks, CutReaches, IsWatch, RowsRun, RanksRun, RunsFall, NoneWatched}
 use Rattle.l2_ssa_laws.proofs.Shown.{keep, unranked, Quiet, AllQuiet, Shown}
 use Rattle.l2_ssa_laws.proofs.Ends.{app_nil}
 use Rattle.l2_ssa_laws.proofs.Nodes.{run, nodes_shows}
+use Rattle.l2_ssa_laws.proofs.Safe.{find_entered}
 
 -- ---- no watch
 
@@ -176,61 +175,6 @@ module _ (c : CodeTree) (f : Family) (w : IsWellFormed c) (z : IsResolved c f) (
         go (inl h) = inl (row_true m s g watched l i o.events h.shows.events)
         go (inr h) = inr h
 
--- ---- from runs
-
-pub enter_enters : (x : walks.Given) (u : Supply) → Enters x (enter x u)
-enter_enters walks.nothing u = tt
-enter_enters walks.entering u = refl
-enter_enters (walks.chosen g n) u = tt
-enter_enters (walks.taken g n ty) u = tt
-enter_enters (walks.halves g n) u = tt
-enter_enters (walks.pair x y) u = (enter_enters x (left u), enter_enters y (right u))
-
-fallen_goes_on : (l i : ℕ) (p : Place) → Halted {A = Way} (Ends (Fallen l i) p) → ⊥
-fallen_goes_on l i p h = h
-
-module _ (c : CodeTree) (f : Family) (k0 : ℕ) (kind : ℕ → Kind) (no_plain : (l : ℕ) → kind l ≡ walks.Plain → ⊥) (row : RowsOf) (lower : RanksOf) (watched : ℕ → Bool) (l i : ℕ) where
-  abbrev gg : Setting
-  gg = rank_setting c f (suc k0) kind
-
-  abbrev rr : going.Setting
-  rr = record { heads = going.Cut (suc k0) (starts row gg); tests = rank_tests row lower gg watched; types = types_of c; sets = f.object; mods = gg.mods }
-
-  abbrev pp : Place
-  pp = record { store = first_store c; arrivals = 0 }
-
-  abbrev comes : Supply → Come Way
-  comes u = nodes_with rr true c.body no_temps u pp
-
-  record Found : Type 0 where
-    supply : Supply
-    place : Place
-    is : comes supply ≡ Ends (Fallen l i) place
-
-  find : (r : Result Way) → IsSupplied (λ u. comes u) r → EndsAt (Fallen l i) (on_go r (λ v. stop)) → Found
-  find (Go a st) h e = absurd (no_stop e)
-    where
-      no_stop : Over Stopped ≡ Fallen l i → ⊥
-      no_stop j = cc
-  find (Halt y st) h e =
-      let d = subst (λ x. Rattle.l2_supply.specs.Supply.IsFailure x → (u : Supply) × (comes u ≡ Ends x (place_of st))) e h tt in
-      record { supply = d.0; place = place_of st; is = d.1 }
-
-  abbrev given : walks.Given
-  given = (rank_ssa c f (suc k0) kind).given
-
-  entered_is : (u : Supply) (p : Place) → comes u ≡ Ends (Fallen l i) p → Same (comes u) (comes (enter given u)) → comes (enter given u) ≡ Ends (Fallen l i) p
-  entered_is u p e (inl q) = sym q ∙ e
-  entered_is u p e (inr h) = absurd (fallen_goes_on l i p (subst (λ (y : Come Way). Halted y) e h))
-
-  pub find_entered : (choices : List ℤ) (turns : ℕ) → CutEnds c f (suc k0) row kind (rank_tests row lower gg watched) choices turns (Fallen l i) → (u : Supply) × Enters given u × ((p : Place) × (comes u ≡ Ends (Fallen l i) p))
-  find_entered choices turns e =
-      let d = find (machine.nodes (machine_of rr) true c.body no_temps (start c choices turns)) ((nodes_agree rr true c.body no_temps).by_choices (start c choices turns)) e in (
-        enter given d.supply,
-        enter_enters given d.supply,
-        (d.place, entered_is d.supply d.place d.is (nodes_enter gg row (rank_tests row lower gg watched) k0 refl no_plain c.body [] walks.T 0 (first_walk c) true no_temps d.supply pp)),
-      )
-
 pub rows_run : RowsRun
 rows_run c f w z zero some kind row lower s ok l i ev = absurd (omega arith)
 rows_run c f w z (suc k0) some kind row lower s ok l i ev =
@@ -243,5 +187,5 @@ ranks_run c f w z (suc k0) some kind row lower s ok watched l wt ev = rank_runs 
 pub runs_fall : RunsFall
 runs_fall c f w z zero some kind no_plain row lower watched choices turns l i e = absurd (omega arith)
 runs_fall c f w z (suc k0) some kind no_plain row lower watched choices turns l i e =
-    let d = find_entered c f k0 kind no_plain row lower watched l i choices turns e in
+    let d = find_entered c f z k0 kind no_plain row true (rank_tests row lower (rank_setting c f (suc k0) kind) watched) (Fallen l i) tt choices turns e in
     (d.0, d.1, λ s ok mt. fails c f w z k0 kind row lower watched s ok d.0 d.2.0 l i d.2.1 mt)

@@ -91,7 +91,7 @@ abbrev pub RunsFall : Type 0
 RunsFall =
     (c : CodeTree) (f : Family) → IsWellFormed c → IsResolved c f → (k : ℕ) → 1 ≤ k → (kind : ℕ → Kind) → ((l : ℕ) → kind l ≡ Plain → ⊥) → (row : RowsOf) (lower : RanksOf) (watched : ℕ → Bool)
     → (choices : List ℤ) (turns l i : ℕ) → CutEnds c f k row kind (rank_tests row lower (rank_setting c f k kind) watched) choices turns (Fallen l i)
-    → (u : Supply) × Enters (rank_ssa c f k kind).given u × ((s : Names) → SolvesRanks c f k row lower kind s → Matches (types_of c).objects s (rank_ssa c f k kind).given u
+    → (u : Supply) × Enters (types_of c).objects (rank_ssa c f k kind).given u × ((s : Names) → SolvesRanks c f k row lower kind s → Matches (types_of c).objects s (rank_ssa c f k kind).given u
     → HasEvent s (RowGoal l i) (rank_ssa c f k kind).events ⊎ (IsWatch kind watched l i × HasEvent s (RankGoal l) (rank_ssa c f k kind).events))
 
 -- runs that watch no loop test the rows alone

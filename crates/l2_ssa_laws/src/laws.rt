@@ -1,4 +1,5 @@
 //! What holds of a code's equations and its runs: functions without effect whose contracts are the laws.
+ghost use Rattle.l2_ssa_laws.specs.Entering.{RunsEnter};
 ghost use Rattle.l2_ssa_laws.specs.Rankings.{RowsRun, RanksRun, RunsFall, NoneWatched};
 
 /// Where names solve the equations of a well-formed code with rankings and an event of a row is true, some cut run that tests the rows
@@ -22,4 +23,10 @@ pub fn runs_fall()
 /// Runs that watch no loop test the rows alone.
 pub fn none_watched()
     ensures { NoneWatched }
+{}
+
+/// Where checks are events and a cut run fails, some values of the names that choices give, which enter the loops without back starts
+/// and name no object without cells, make an event of that end true, in whatever way the equations are then solved.
+pub fn runs_enter()
+    ensures { RunsEnter }
 {}

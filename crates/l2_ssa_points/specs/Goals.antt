@@ -1,7 +1,6 @@
 -- What is to be shown of a code at a point: its goals, in their order.
 use Rattle.std.specs.Prelude.{ℕ, zero, suc, List, [], ◌∷◌, ◌++◌, length, Option, Some, None}
 use Rattle.l2_templates.specs.declared.form.Form.{Form}
-use Rattle.l2_templates.specs.declared.form.Row.{Row}
 use Rattle.l2_templates.specs.declared.point.LoopPoint.{LoopPoint}
 use Rattle.l2_templates.specs.declared.point.LoopPoint.TheVariants as point
 use Rattle.l2_cuts.specs.Points.{point_at}
@@ -15,15 +14,15 @@ kind_of (point.Rows rows) = Rows (length rows)
 abbrev pub kind_at : List LoopPoint → ℕ → Kind
 kind_at q l = kind_of (point_at q l)
 
--- the goals of these rows of a loop, from row i on
-abbrev pub goals_of_rows : ℕ → ℕ → List Row → List Goal
-goals_of_rows l i [] = []
-goals_of_rows l i (row ∷ rows) = RowGoal l i ∷ goals_of_rows l (suc i) rows
+-- the goals of so many rows of a loop, from row i on
+abbrev pub goals_of_rows : ℕ → ℕ → ℕ → List Goal
+goals_of_rows l i zero = []
+goals_of_rows l i (suc more) = RowGoal l i ∷ goals_of_rows l (suc i) more
 
 -- the rows of a loop, or that no turn of it ends
 abbrev pub loop_goals : ℕ → LoopPoint → List Goal
 loop_goals l point.Bottom = RowGoal l 0 ∷ []
-loop_goals l (point.Rows rows) = goals_of_rows l 1 rows
+loop_goals l (point.Rows rows) = goals_of_rows l 1 (length rows)
 
 -- of the loops from number l on
 abbrev pub row_goals : ℕ → List LoopPoint → List Goal
