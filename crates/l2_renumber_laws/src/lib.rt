@@ -1,0 +1,4 @@
+//! Rows of loops may go by other numbers, beside tests that always hold: cut runs end alike.
+#![tactic(auto)]
+
+pub mod laws;
