@@ -1,0 +1,12 @@
+pub mod Circuits
+pub mod Given
+pub mod Envs
+pub mod Sets
+pub mod Making
+pub mod Operands
+pub mod Folds
+pub mod Computing
+pub mod Stepping
+pub mod Filling
+pub mod Solving
+pub mod Choosing
