@@ -1,0 +1,11 @@
+use Rattle.std.proofs.Common.{◌≡◌, ◌<◌, ◌^◌, take}
+use Rattle.std.specs.Str.Parse.{AllDigits, digits_value}
+use Rattle.l2_dimacs.proofs.number.read_number.Given as goal
+
+-- the number that the digits so far spell
+abbrev pub invariant-loop-byte : goal.invariant-loop-byte
+invariant-loop-byte l = record {
+  digits : AllDigits 10 (take l.byte-index l.word);
+  value : l.value ≡ digits_value 10 (take l.byte-index l.word);
+  small : l.value < 10 ^ 18;
+}
