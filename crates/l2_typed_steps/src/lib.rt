@@ -1,0 +1,4 @@
+//! The equations of a code are typed.
+#![tactic(auto)]
+
+pub mod laws;
