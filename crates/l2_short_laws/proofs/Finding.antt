@@ -19,13 +19,14 @@ use Rattle.l2_ssa.proofs.Shows.{Shows, is_shown}
 use Rattle.l2_ssa.proofs.Frames.{outs_of, allow}
 use Rattle.l2_ssa.proofs.Givens.{supply_of, match_own, nodes_given}
 use Rattle.l2_ssa.proofs.Solutions.{there_number, begins, temps_hold, stored, no_event, event_if}
+use Rattle.l2_ssa_laws.proofs.Ends.{app_nil}
 use Rattle.l2_short_laws.specs.Shorts.{short_ssa, SolvesShort, short_run}
 use Rattle.l2_short_laws.specs.Used.{used, arrivals, BreaksAt, SolutionsBreak}
 use Rattle.l2_short_laws.proofs.Breaking as breaking
 use Rattle.l2_short_laws.proofs.Breaking.{not_stuck, shown}
 use Rattle.l2_short_laws.proofs.Idle.{given_used}
 use Rattle.l2_short_laws.proofs.Uses.{moved, Uses, nodes_uses}
-use Rattle.l2_short_laws.proofs.Takes.{nodes_take, are_values, app_nil}
+use Rattle.l2_short_laws.proofs.Takes.{nodes_take, are_values}
 
 module _ (c : CodeTree) (f : Family) (w : IsWellFormed c) (z : IsResolved c f) (k0 : ℕ) (row : RowsOf) (lower : RanksOf) (s : Names) (ok : SolvesShort c f (suc k0) row lower s) where
   abbrev o : walks.Out

@@ -18,6 +18,7 @@ use Rattle.l2_ssa.specs.Steps as steps
 use Rattle.l2_ssa.specs.Steps.{Step, Names, on, number_in, Meaning, Holds, Solves}
 use Rattle.l2_ssa.specs.Walks as walks
 use Rattle.l2_ssa.specs.Walks.{Setting, Slot, Walk, Frame, Entry, Plain, past, is_last, copy_frame, count_steps, count_name, walk_copies, walk_action, walk_node, walk}
+use Rattle.l2_ssa_laws.proofs.Ends.{app_nil}
 use Rattle.l2_short_laws.specs.Used.{used, AreValues}
 use Rattle.l2_short_laws.proofs.Idle.{given_used}
 
@@ -173,10 +174,6 @@ count_none true p b c = tt
 count_none false p b c = tt
 
 -- ---- code
-
-pub app_nil : {A : Type 0} (xs : List A) → xs ++ [] ≡ xs
-app_nil [] = refl
-app_nil (x ∷ xs) = ap (λ ys. x ∷ ys) (app_nil xs)
 
 module _ (s : Names) (g0 : Setting) (k0 : ℕ) where
   abbrev g : Setting

@@ -16,7 +16,7 @@ use Rattle.l2_ssa.proofs.Shows.{Spot, Off, At, SlotsRead, Stands, AllFalse, OneI
 use Rattle.l2_ssa.proofs.Labels.{bit_on}
 use Rattle.l2_ssa.proofs.Heads.{vars_read}
 use Rattle.l2_ssa.proofs.Turns.{Closes, rows_close, rows_off}
-use Rattle.l2_ssa_laws.specs.Rankings.{rows_of, watch_of, lowers, rank_tests}
+use Rattle.l2_ssa_laws.specs.Rankings.{Watch, Unwatched, Passing, Ranked, rows_of, watch_of, lowers, rank_tests}
 use Rattle.l2_ssa_laws.proofs.Shown.{unranked, unranked_both, others, AllQuiet, quiet_both, Falls, event_right}
 
 pub app_nil : {A : Type 0} (xs : List A) → xs ++ [] ≡ xs
@@ -37,7 +37,7 @@ rows_kept : (g : Setting) (q c : Operand) (l i more n : ℕ) (w : Walk) → unra
 rows_kept g q c l i zero n w = refl
 rows_kept g q c l i (suc more) n w = ap (λ es. record { goal = RowGoal l i; literal = Temp (suc (suc n)) } ∷ es) (rows_kept g q c l (suc i) more (suc (suc (suc (suc n)))) (with_path w (Temp (suc (suc (suc n))))))
 
-module _ (m : Meaning) (s : Names) (g : Setting) (types : m.types ≡ g.types) (watched : ℕ → Bool) where
+module _ (m : Meaning) (s : Names) (g : Setting) (types : m.types ≡ g.types) (watched : ℕ → Watch) where
   abbrev Stand : Operand → List Slot → Spot → Type 0
   Stand p slots q = Stands m s g p slots q
 
@@ -104,10 +104,10 @@ module _ (m : Meaning) (s : Names) (g : Setting) (types : m.types ≡ g.types) (
     kept : unranked both.events ≡ rows.events
     kept = unranked_both rows.events behind.events ∙ ap (λ es. es ++ []) (rows_kept g w.path c l 1 r n w) ∙ app_nil rows.events
 
-    quiet : (watched l ≡ true → on s (literal w.path c l slots n1 rows.after) ≡ false) → AllQuiet m s g watched both.events
+    quiet : (watched l ≡ Ranked → on s (literal w.path c l slots n1 rows.after) ≡ false) → AllQuiet m s g watched both.events
     quiet k = quiet_both m s g watched rows.events behind.events (rows_quiet w.path c l 1 r n w) (k, tt)
 
-    calm_go : (u v : Unit {0}) (q : Place) → Closes m s g types rows p (Goes u q) → (watched l ≡ true → on s (literal w.path c l slots n1 rows.after) ≡ false) → Closing both p (Goes v q)
+    calm_go : (u v : Unit {0}) (q : Place) → Closes m s g types rows p (Goes u q) → (watched l ≡ Ranked → on s (literal w.path c l slots n1 rows.after) ≡ false) → Closing both p (Goes v q)
     calm_go u v q k j = inl (record {
       closes = record { closed = (k.closed.0, k.closed.1, subst (AllFalse m s g) (sym kept) k.closed.2); entries = shut_both m s g rows.entries [] k.entries tt };
       quiet = quiet j;
@@ -124,11 +124,12 @@ module _ (m : Meaning) (s : Names) (g : Setting) (types : m.types ≡ g.types) (
       uncounted_close e (Go u z) k = calm_go u u (place_of z) k (λ j. uncounted w.path c l slots n1 rows.after ok e)
       uncounted_close e (Halt x z) k = calm_end x (place_of z) k
 
-      watched_close : g.kind l ≡ Rows r → on s c ≡ true → (x : Result (Unit {0})) → Closes m s g types rows p (come_of x) → (t : Bool) → watched l ≡ t
+      watched_close : g.kind l ≡ Rows r → on s c ≡ true → (x : Result (Unit {0})) → Closes m s g types rows p (come_of x) → (t : Watch) → watched l ≡ t
           → Closing both p (come_of (on_go x (λ u. events true l (watch_of m.lower g t (Rows r) l) old)))
       watched_close kd e (Halt x z) k t wt = calm_end x (place_of z) k
-      watched_close kd e (Go u z) k false wt = calm_go u tt (place_of z) k (λ j. let a = wt in let b = j in cc)
-      watched_close kd e (Go u z) k true wt = go (lowers m.lower g l old z.store) refl
+      watched_close kd e (Go u z) k Unwatched wt = calm_go u tt (place_of z) k (λ j. let a = wt in let b = j in cc)
+      watched_close kd e (Go u z) k Passing wt = calm_go u tt (place_of z) k (λ j. let a = wt in let b = j in cc)
+      watched_close kd e (Go u z) k Ranked wt = go (lowers m.lower g l old z.store) refl
         where
           literal_at : (low : Bool) → lowers m.lower g l old z.store ≡ low → on s (literal w.path c l slots n1 rows.after) ≡ not low
           literal_at low j =
@@ -169,9 +170,10 @@ module _ (m : Meaning) (s : Names) (g : Setting) (types : m.types ≡ g.types) (
     at_true Bottom kd e ok = bottom_calm c l n w p (Ends (Fallen l 0) p) (record { closed = ((refl, h.1), inl (refl, counted_at true e ok.0, tt)); entries = tt })
     at_true Plain kd e ok = go (watched l)
       where
-        go : (t : Bool) → Closing (end_turn g Plain c l slots n w) p (come_of (events true l (watch_of m.lower g t Plain l) old (at p [] 0)))
-        go true = inl (record { closes = record { closed = (refl, h, tt); entries = tt }; quiet = tt })
-        go false = inl (record { closes = record { closed = (refl, h, tt); entries = tt }; quiet = tt })
+        go : (t : Watch) → Closing (end_turn g Plain c l slots n w) p (come_of (events true l (watch_of m.lower g t Plain l) old (at p [] 0)))
+        go Unwatched = inl (record { closes = record { closed = (refl, h, tt); entries = tt }; quiet = tt })
+        go Passing = inl (record { closes = record { closed = (refl, h, tt); entries = tt }; quiet = tt })
+        go Ranked = inl (record { closes = record { closed = (refl, h, tt); entries = tt }; quiet = tt })
     at_true (Rows r) kd e ok =
         with_rank r _
         (λ k. subst (λ x. Closing (both r c l slots old reads n w p h) p (come_of x)) (sym (events_both true l (row_tests m.row g l 1 r) (watch_of m.lower g (watched l) (Rows r) l) old (at p [] 0)))

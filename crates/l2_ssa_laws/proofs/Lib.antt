@@ -5,3 +5,4 @@ pub mod Nodes
 pub mod Entering
 pub mod Safe
 pub mod Solved
+pub mod Named

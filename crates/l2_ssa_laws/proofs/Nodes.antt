@@ -33,13 +33,13 @@ use Rattle.l2_ssa.proofs.Instructions as instructions
 use Rattle.l2_ssa.proofs.Instructions.{act_shows, act_stops}
 use Rattle.l2_ssa.proofs.Heads.{entry_all, off_all, Lands, back_all, rows_entry, rows_back, rows_off}
 use Rattle.l2_ssa.proofs.Copies.{turns, entry_turns, back_turns, way_of, first_unstuck, ComeHolds}
-use Rattle.l2_ssa_laws.specs.Rankings.{rank_tests}
+use Rattle.l2_ssa_laws.specs.Rankings.{Watch, rank_tests}
 use Rattle.l2_ssa_laws.proofs.Shown.{others, Shown, unranked, AllQuiet, joined_shown, false_unranked, false_quiet}
 use Rattle.l2_ssa_laws.proofs.Rounds.{copies_show, copies_stop}
 
 module _ (row : RowsOf) (lower : RanksOf) (s : Names) (g : Setting) (checks loops : ℕ)
     (small : (n : ℕ) → length (g.types.objects n) ≤ 65536) (there : (o : ℕ) → 0 < length (g.types.objects o) → (1 ≤ o) × (o < 1 + g.objects))
-    (ranked : g.ranks ≡ true) (watched : ℕ → Bool) (k0 : ℕ) (copies : g.copies ≡ suc k0) where
+    (ranked : g.ranks ≡ true) (watched : ℕ → Watch) (k0 : ℕ) (copies : g.copies ≡ suc k0) where
   abbrev heads : Heads
   heads = Cut (suc k0) (starts row g)
 

@@ -18,11 +18,11 @@ use Rattle.l2_ssa.proofs.Shows.{Spot, Off, At, Standing, Stands, Begins, Stops, 
 use Rattle.l2_ssa.proofs.Labels.{bit_on}
 use Rattle.l2_ssa.proofs.Frames.{outs_of, let_out, allow, NotStuck}
 use Rattle.l2_ssa.proofs.Copies.{counts, leaves, pass, turns, way_of, ComeHolds}
-use Rattle.l2_ssa_laws.specs.Rankings.{rank_tests}
+use Rattle.l2_ssa_laws.specs.Rankings.{Watch, rank_tests}
 use Rattle.l2_ssa_laws.proofs.Shown.{Shown, joined_shown}
 use Rattle.l2_ssa_laws.proofs.Ends.{Closing, turn_closes, turn_off}
 
-module _ (m : Meaning) (s : Names) (g : Setting) (types : m.types ≡ g.types) (ranked : g.ranks ≡ true) (watched : ℕ → Bool) where
+module _ (m : Meaning) (s : Names) (g : Setting) (types : m.types ≡ g.types) (ranked : g.ranks ≡ true) (watched : ℕ → Watch) where
   abbrev Stand : Operand → List Slot → Spot → Type 0
   Stand p slots q = Stands m s g p slots q
 

@@ -1,5 +1,5 @@
 -- What a solution shows of a run that watches rankings: until a ranking fails, what it shows of every run.
-use Rattle.std.proofs.Common.{◌≡◌, ◌⊎◌, inl, inr, ℕ, Bool, true, false, refl, sym, ap, subst, List, [], ◌∷◌, ◌++◌}
+use Rattle.std.proofs.Common.{◌≡◌, ◌⊎◌, inl, inr, ℕ, false, refl, sym, ap, subst, List, [], ◌∷◌, ◌++◌}
 use Rattle.l2_runs.specs.Runs.{End, Over, Fallen}
 use Rattle.l2_code.specs.Values.{Temps}
 use Rattle.l2_code.specs.Machine.{Way, On, Out}
@@ -9,7 +9,7 @@ use Rattle.l2_ssa.specs.Law.{HasEvent}
 use Rattle.l2_ssa.specs.Walks as walks
 use Rattle.l2_ssa.specs.Walks.{Setting, Goal, RowGoal, RankGoal, CheckGoal, Event, Given, joined}
 use Rattle.l2_ssa.proofs.Shows.{Off, Standing, Stands, Begins, Shows, Stops, AllFalse, then_come, joined_shows}
-use Rattle.l2_ssa_laws.specs.Rankings.{IsWatch}
+use Rattle.l2_ssa_laws.specs.Rankings.{Watch, Ranked, IsWatch}
 
 -- ---- events but those of rankings
 
@@ -34,12 +34,12 @@ unranked_both (e ∷ es) fs = go e.goal (unranked_both es fs)
 abbrev pub others : walks.Out → walks.Out
 others o = record o { events = unranked o.events }
 
-module _ (m : Meaning) (s : Names) (g : Setting) (watched : ℕ → Bool) where
+module _ (m : Meaning) (s : Names) (g : Setting) (watched : ℕ → Watch) where
   -- ---- no watched loop's ranking has failed
 
   abbrev pub Quiet : Goal → Event → Type 0
   Quiet (RowGoal l i) e = Unit {0}
-  Quiet (RankGoal l) e = watched l ≡ true → on s e.literal ≡ false
+  Quiet (RankGoal l) e = watched l ≡ Ranked → on s e.literal ≡ false
   Quiet (CheckGoal c) e = Unit {0}
 
   abbrev pub AllQuiet : List Event → Type 0

@@ -24,7 +24,7 @@ use Rattle.l2_ssa.proofs.Shows.{OneTrue, is_shown, Begins, Standing}
 use Rattle.l2_ssa.proofs.Frames.{outs_of, allow, NotStuck}
 use Rattle.l2_ssa.proofs.Givens.{supply_of, match_own, nodes_given}
 use Rattle.l2_ssa.proofs.Solutions.{there_number, begins, temps_hold, stored, no_event, event_if}
-use Rattle.l2_ssa_laws.specs.Rankings.{rows_at, watch_at, rank_tests, rank_setting, rank_ssa, SolvesRanks, CutReaches, IsWatch, RowsRun, RanksRun, RunsFall, NoneWatched}
+use Rattle.l2_ssa_laws.specs.Rankings.{Watch, Unwatched, Ranked, rows_at, watch_at, rank_tests, rank_setting, rank_ssa, SolvesRanks, CutReaches, IsWatch, RowsRun, RanksRun, RunsFall, NoneWatched}
 use Rattle.l2_ssa_laws.proofs.Shown.{keep, unranked, Quiet, AllQuiet, Shown}
 use Rattle.l2_ssa_laws.proofs.Ends.{app_nil}
 use Rattle.l2_ssa_laws.proofs.Nodes.{run, nodes_shows}
@@ -37,11 +37,11 @@ tests_alone rows ranks h true l = ap (λ ws. rows l ++ ws) (h l) ∙ app_nil (ro
 tests_alone rows ranks h false l = refl
 
 pub none_watched : NoneWatched
-none_watched row lower g = λ i counted l. tests_alone (rows_at row g) (watch_at lower g (λ l. false)) (λ l. refl) counted l i
+none_watched row lower g = λ i counted l. tests_alone (rows_at row g) (watch_at lower g (λ l. Unwatched)) (λ l. refl) counted l i
 
 -- ---- events
 
-module _ (m : Meaning) (s : Names) (g : Setting) (watched : ℕ → Bool) where
+module _ (m : Meaning) (s : Names) (g : Setting) (watched : ℕ → Watch) where
   -- an event of a row is kept
   row_kept : (l i : ℕ) (es : List Event) → HasEvent s (RowGoal l i) es → HasEvent s (RowGoal l i) (unranked es)
   row_kept l i [] h = h
@@ -58,7 +58,7 @@ module _ (m : Meaning) (s : Names) (g : Setting) (watched : ℕ → Bool) where
       go (RankGoal a) k = k
       go (CheckGoal a) k = inr k
 
-  quiet_ranks : (l : ℕ) → watched l ≡ true → (es : List Event) → AllQuiet m s g watched es → HasEvent s (RankGoal l) es → ⊥
+  quiet_ranks : (l : ℕ) → watched l ≡ Ranked → (es : List Event) → AllQuiet m s g watched es → HasEvent s (RankGoal l) es → ⊥
   quiet_ranks l wt [] q h = h
   quiet_ranks l wt (e ∷ es) q (inl h) = go e.goal h.0 q.0
     where
@@ -88,7 +88,7 @@ module _ (m : Meaning) (s : Names) (g : Setting) (watched : ℕ → Bool) where
 
 -- ---- the laws
 
-module _ (c : CodeTree) (f : Family) (w : IsWellFormed c) (z : IsResolved c f) (k0 : ℕ) (kind : ℕ → Kind) (row : RowsOf) (lower : RanksOf) (watched : ℕ → Bool) (s : Names) where
+module _ (c : CodeTree) (f : Family) (w : IsWellFormed c) (z : IsResolved c f) (k0 : ℕ) (kind : ℕ → Kind) (row : RowsOf) (lower : RanksOf) (watched : ℕ → Watch) (s : Names) where
   abbrev g : Setting
   g = rank_setting c f (suc k0) kind
 
@@ -142,7 +142,7 @@ module _ (c : CodeTree) (f : Family) (w : IsWellFormed c) (z : IsResolved c f) (
     reaches : (x : End) (p : Place) → Chosen ways p0 (Ends x p) → Reaches x
     reaches x p ch = (ch.choices, λ rest turns. subst (λ (r : Result Way). EndsAt x (on_go r (λ v. stop))) (sym (ch.comes rest turns)) refl)
 
-    pub row_runs : ((l : ℕ) → watched l ≡ false) → (l i : ℕ) → HasEvent s (RowGoal l i) o.events → Reaches (Fallen l i)
+    pub row_runs : ((l : ℕ) → watched l ≡ Unwatched) → (l i : ℕ) → HasEvent s (RowGoal l i) o.events → Reaches (Fallen l i)
     row_runs none l i ev = go (come own) own_shown own_chosen
       where
         go : (e : Come Way) → Shown m s g watched o (allow (outs_of s []) e) → Chosen ways p0 e → Reaches (Fallen l i)
@@ -154,7 +154,7 @@ module _ (c : CodeTree) (f : Family) (w : IsWellFormed c) (z : IsResolved c f) (
         go (Ends (Over x) p) (inr h) ch = absurd h
         go (Ends (Fallen a b) p) (inr h) ch = let yes_watched = h.0.0 in let not_watched = none a in cc
 
-    pub rank_runs : (l : ℕ) → watched l ≡ true → HasEvent s (RankGoal l) o.events → (a i : ℕ) × IsWatch kind watched a i × Reaches (Fallen a i)
+    pub rank_runs : (l : ℕ) → watched l ≡ Ranked → HasEvent s (RankGoal l) o.events → (a i : ℕ) × IsWatch kind watched a i × Reaches (Fallen a i)
     rank_runs l wt ev = go (come own) own_shown own_chosen
       where
         go : (e : Come Way) → Shown m s g watched o (allow (outs_of s []) e) → Chosen ways p0 e → (a i : ℕ) × IsWatch kind watched a i × Reaches (Fallen a i)
@@ -178,7 +178,7 @@ module _ (c : CodeTree) (f : Family) (w : IsWellFormed c) (z : IsResolved c f) (
 pub rows_run : RowsRun
 rows_run c f w z zero some kind row lower s ok l i ev = absurd (omega arith)
 rows_run c f w z (suc k0) some kind row lower s ok l i ev =
-    subst (λ ts. CutReaches c f (suc k0) row kind ts (Fallen l i)) (none_watched row lower (rank_setting c f (suc k0) kind)) (row_runs c f w z k0 kind row lower (λ l. false) s ok (λ l. refl) l i ev)
+    subst (λ ts. CutReaches c f (suc k0) row kind ts (Fallen l i)) (none_watched row lower (rank_setting c f (suc k0) kind)) (row_runs c f w z k0 kind row lower (λ l. Unwatched) s ok (λ l. refl) l i ev)
 
 pub ranks_run : RanksRun
 ranks_run c f w z zero some kind row lower s ok watched l wt ev = absurd (omega arith)

@@ -1,6 +1,6 @@
 -- Rankings: the equations of a code where each turn's ranking is asked for and checks are stops, and the cut runs whose tests are
 -- the rows of each loop, and behind them, at the ends of turns that count, the rankings of the loops that are watched.
-use Rattle.std.specs.Prelude.{◌≡◌, ◌⊎◌, ℕ, suc, ◌≤◌, ℤ, Bool, true, false, List, [], ◌∷◌, ◌++◌}
+use Rattle.std.specs.Prelude.{◌≡◌, ◌⊎◌, ℕ, suc, ◌≤◌, ℤ, Bool, true, List, [], ◌∷◌, ◌++◌}
 use Rattle.l2_runs.specs.Store.{Store}
 use Rattle.l2_runs.specs.Runs.{End, Fallen}
 use Rattle.l2_runs.specs.Loops.{Test, Tests, bottom}
@@ -30,18 +30,28 @@ rows_at row g l = rows_of row g (g.kind l) l
 abbrev pub lowers : RanksOf → Setting → ℕ → Store → Store → Bool
 lowers lower g l a b = lower l (first_cells a (g.vars l)) (first_cells b (g.vars l))
 
--- a loop's ranking is tested behind its rows, where it is watched
-abbrev pub watch_of : RanksOf → Setting → Bool → Kind → ℕ → List Test
-watch_of lower g false kind l = []
-watch_of lower g true Plain l = []
-watch_of lower g true Bottom l = record { row = 2; holds = lowers lower g l } ∷ []
-watch_of lower g true (Rows n) l = record { row = suc n; holds = lowers lower g l } ∷ []
+-- what is tested behind a loop's rows, where turns count: nothing, what each turn passes, or the loop's ranking
+pub data Watch : Type 0 where
+  Unwatched : Watch
+  Passing : Watch
+  Ranked : Watch
 
--- the rankings of the loops that are watched
-abbrev pub watch_at : RanksOf → Setting → (ℕ → Bool) → ℕ → List Test
+-- a test behind a loop's rows
+abbrev pub behind_rows : Kind → (Store → Store → Bool) → List Test
+behind_rows Bottom holds = record { row = 2; holds = holds } ∷ []
+behind_rows Plain holds = []
+behind_rows (Rows n) holds = record { row = suc n; holds = holds } ∷ []
+
+abbrev pub watch_of : RanksOf → Setting → Watch → Kind → ℕ → List Test
+watch_of lower g Unwatched kind l = []
+watch_of lower g Passing kind l = behind_rows kind (λ a b. true)
+watch_of lower g Ranked kind l = behind_rows kind (lowers lower g l)
+
+-- what the loops' watches test
+abbrev pub watch_at : RanksOf → Setting → (ℕ → Watch) → ℕ → List Test
 watch_at lower g watched l = watch_of lower g (watched l) (g.kind l) l
 
-abbrev pub rank_tests : RowsOf → RanksOf → Setting → (ℕ → Bool) → Tests
+abbrev pub rank_tests : RowsOf → RanksOf → Setting → (ℕ → Watch) → Tests
 rank_tests row lower g watched = with_watches (rows_at row g) (watch_at lower g watched)
 
 -- ---- equations
@@ -74,26 +84,26 @@ RowsRun =
     → SolvesRanks c f k row lower kind s → (l i : ℕ) → HasEvent s (RowGoal l i) (rank_ssa c f k kind).events
     → CutReaches c f k row kind (alone (rows_at row (rank_setting c f k kind))) (Fallen l i)
 
--- a loop is watched, has rows, and its ranking is the test behind them
-abbrev pub IsWatch : (ℕ → Kind) → (ℕ → Bool) → ℕ → ℕ → Type 0
-IsWatch kind watched l i = (watched l ≡ true) × ((n : ℕ) × (kind l ≡ Rows n) × (i ≡ suc n))
+-- a loop's ranking is watched, it has rows, and its ranking is the test behind them
+abbrev pub IsWatch : (ℕ → Kind) → (ℕ → Watch) → ℕ → ℕ → Type 0
+IsWatch kind watched l i = (watched l ≡ Ranked) × ((n : ℕ) × (kind l ≡ Rows n) × (i ≡ suc n))
 
 -- where an event of a watched loop's ranking is true, some cut run ends at the ranking of a watched loop
 abbrev pub RanksRun : Type 0
 RanksRun =
     (c : CodeTree) (f : Family) → IsWellFormed c → IsResolved c f → (k : ℕ) → 1 ≤ k → (kind : ℕ → Kind) (row : RowsOf) (lower : RanksOf) (s : Names)
-    → SolvesRanks c f k row lower kind s → (watched : ℕ → Bool) (l : ℕ) → watched l ≡ true → HasEvent s (RankGoal l) (rank_ssa c f k kind).events
+    → SolvesRanks c f k row lower kind s → (watched : ℕ → Watch) (l : ℕ) → watched l ≡ Ranked → HasEvent s (RankGoal l) (rank_ssa c f k kind).events
     → (m i : ℕ) × IsWatch kind watched m i × CutReaches c f k row kind (rank_tests row lower (rank_setting c f k kind) watched) (Fallen m i)
 
 -- where a cut run ends at a row or the ranking of a watched loop, some values of the names that choices give, which enter the loops
 -- without back starts, make an event of it true, in whatever way the equations are then solved
 abbrev pub RunsFall : Type 0
 RunsFall =
-    (c : CodeTree) (f : Family) → IsWellFormed c → IsResolved c f → (k : ℕ) → 1 ≤ k → (kind : ℕ → Kind) → ((l : ℕ) → kind l ≡ Plain → ⊥) → (row : RowsOf) (lower : RanksOf) (watched : ℕ → Bool)
+    (c : CodeTree) (f : Family) → IsWellFormed c → IsResolved c f → (k : ℕ) → 1 ≤ k → (kind : ℕ → Kind) → ((l : ℕ) → kind l ≡ Plain → ⊥) → (row : RowsOf) (lower : RanksOf) (watched : ℕ → Watch)
     → (choices : List ℤ) (turns l i : ℕ) → CutEnds c f k row kind (rank_tests row lower (rank_setting c f k kind) watched) choices turns (Fallen l i)
     → (u : Supply) × Enters (types_of c).objects (rank_ssa c f k kind).given u × ((s : Names) → SolvesRanks c f k row lower kind s → Matches (types_of c).objects s (rank_ssa c f k kind).given u
     → HasEvent s (RowGoal l i) (rank_ssa c f k kind).events ⊎ (IsWatch kind watched l i × HasEvent s (RankGoal l) (rank_ssa c f k kind).events))
 
 -- runs that watch no loop test the rows alone
 abbrev pub NoneWatched : Type 0
-NoneWatched = (row : RowsOf) (lower : RanksOf) (g : Setting) → rank_tests row lower g (λ l. false) ≡ alone (rows_at row g)
+NoneWatched = (row : RowsOf) (lower : RanksOf) (g : Setting) → rank_tests row lower g (λ l. Unwatched) ≡ alone (rows_at row g)

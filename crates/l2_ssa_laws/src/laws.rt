@@ -1,5 +1,6 @@
 //! What holds of a code's equations and its runs: functions without effect whose contracts are the laws.
 ghost use Rattle.l2_ssa_laws.specs.Entering.{RunsEnter};
+ghost use Rattle.l2_ssa_laws.specs.Events.{EventsNamed};
 ghost use Rattle.l2_ssa_laws.specs.Rankings.{RowsRun, RanksRun, RunsFall, NoneWatched};
 
 /// Where names solve the equations of a well-formed code with rankings and an event of a row is true, some cut run that tests the rows
@@ -29,4 +30,10 @@ pub fn none_watched()
 /// and name no object without cells, make an event of that end true, in whatever way the equations are then solved.
 pub fn runs_enter()
     ensures { RunsEnter }
+{}
+
+/// The goal of each event of a well-formed code's equations is a row of one of its loops, the ranking of one that has rows where
+/// rankings are asked for, or elsewhere one of its checks.
+pub fn events_named()
+    ensures { EventsNamed }
 {}

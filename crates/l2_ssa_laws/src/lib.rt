@@ -1,4 +1,4 @@
-//! What else holds of a code's equations: where rankings are asked for.
+//! What else holds of a code's equations: where rankings are asked for, and which goals events have.
 #![tactic(auto)]
 
 pub mod laws;
