@@ -13,10 +13,10 @@ use Rattle.l2_templates.specs.declared.point.LoopPoint.TheVariants.{Bottom, Rows
 use Rattle.l2_templates.specs.Domains.{Rises}
 use Rattle.l2_templates.specs.Rows.{row_of}
 use Rattle.l2_templates.specs.Forms.{no_form}
-use Rattle.l2_templates.specs.Points.{IsTighter, Tightens, IsStrongerAt, IsStronger}
+use Rattle.l2_templates.specs.Points.{IsTighter, Tightens, IsStrongerAt, IsStronger, HaveSameForms, AreAlike}
 use Rattle.l2_cuts.specs.Points.{point_at}
 use Rattle.l2_cuts.specs.Strongest.{IsBoundOf, HaveBounds}
-use Rattle.l2_strategy.specs.Asking.{IsBounded, IsFailedAt, IsFailed}
+use Rattle.l2_strategy.specs.Asking.{IsBounded, IsFailedAt, IsFailed, IsAskable}
 use Rattle.l2_strategy.specs.Places.{IsOf, AreOf, IsStrongestOf, Spot, forms_of, at_bottom, rows_of, spot_point, point_of, AtMost, IsBelow, AreBelow, AreFit, IsSearching, left_of, left}
 
 -- ---- bounds
@@ -219,15 +219,32 @@ left_raise most [] i d r j lt inside up le = absurd (omega (arith, lt))
 left_raise most (x ∷ xs) zero d r j lt inside up le = let k = left_index most x.indexes r j inside up le in omega (arith, k)
 left_raise most (x ∷ xs) (suc i) d r j lt inside up le = let k = left_raise most xs i d r j (omega (arith, lt)) inside up le in omega (arith, k)
 
+-- points of the same forms are alike
+of_alike : (bounds : List ℤ) (all : List (List Form)) (a b : List LoopPoint) → AreOf bounds all a → AreOf bounds all b → AreAlike a b
+of_alike bounds [] [] [] h k = tt
+of_alike bounds [] [] (y ∷ b) h k = absurd k
+of_alike bounds [] (x ∷ a) b h k = absurd h
+of_alike bounds (forms ∷ all) [] b h k = absurd h
+of_alike bounds (forms ∷ all) (x ∷ a) [] h k = absurd k
+of_alike bounds (forms ∷ all) (x ∷ a) (y ∷ b) h k = (same x y h.0 k.0, of_alike bounds all a b h.1 k.1)
+  where
+    same : (x y : LoopPoint) → IsOf bounds forms x → IsOf bounds forms y → HaveSameForms x y
+    same Bottom y h k = tt
+    same (Rows as') Bottom h k = tt
+    same (Rows as') (Rows bs) h k = h.0 ∙ sym k.0
+
 -- ---- what a question tells
 
 -- what questions mean, at one problem
-module _ (bounds : List ℤ) (rises : Rises bounds) (Infers : List LoopPoint → Type 0) (Exceeds : List LoopPoint → ℕ → ℕ → ℤ → Type 0) (lower_law : (q : List LoopPoint) (l row : ℕ) (a b : ℤ) → b ≤ℤ a → Exceeds q l row a → Exceeds q l row b) (below_law : (a b : List LoopPoint) → IsStronger a b → Infers b → (l row : ℕ) (above : ℤ) → IsBounded (point_at b l) row above → ¬ Exceeds a l row above) (spots : List Spot) (searching : IsSearching Infers bounds spots) where
+module _ (bounds : List ℤ) (rises : Rises bounds) (Infers : List LoopPoint → Type 0) (Exceeds : List LoopPoint → ℕ → ℕ → ℤ → Type 0) (lower_law : (q : List LoopPoint) (l row : ℕ) (a b : ℤ) → b ≤ℤ a → Exceeds q l row a → Exceeds q l row b) (below_law : (a b : List LoopPoint) → AreAlike a b → IsStronger a b → Infers b → (l row : ℕ) (above : ℤ) → IsBounded (point_at b l) row above → ¬ Exceeds a l row above) (spots : List Spot) (searching : IsSearching Infers bounds spots) where
   abbrev here : List LoopPoint
   here = point_of bounds spots
 
   stronger : (q : List LoopPoint) → AreOf bounds (forms_of spots) q → Infers q → IsStronger here q
   stronger q of i = below_stronger bounds rises spots q searching.fit of (searching.below q of i)
+
+  alike : (q : List LoopPoint) → AreOf bounds (forms_of spots) q → AreAlike here q
+  alike q of = of_alike bounds (forms_of spots) here q (point_is bounds rises spots searching.fit) of
 
   of_index : (all : List (List Form)) (q : List LoopPoint) (i : ℕ) → AreOf bounds all q → (rows : List Row) → point_at q (suc i) ≡ Rows rows → HaveBounds bounds rows
   of_index [] [] i of rows e = cc
@@ -253,7 +270,7 @@ module _ (bounds : List ℤ) (rises : Rises bounds) (Infers : List LoopPoint →
   reached_below i d comes q of infers = set_below bounds spots i (record (slice_index_or spots i d) { reached = true }) d q (λ b lt. new (point_at q (suc i)) refl b) (searching.below q of infers)
     where
       new : (x : LoopPoint) → point_at q (suc i) ≡ x → IsBelow bounds (slice_index_or spots i d) x → IsBelow bounds (record (slice_index_or spots i d) { reached = true }) x
-      new Bottom e b = absurd (below_law here q (stronger q of infers) infers (suc i) 0 (pos 0) (subst (λ x. IsBounded x 0 (pos 0)) (sym e) tt) (comes (pos 0)))
+      new Bottom e b = absurd (below_law here q (alike q of) (stronger q of infers) infers (suc i) 0 (pos 0) (subst (λ x. IsBounded x 0 (pos 0)) (sym e) tt) (comes (pos 0)))
       new (Rows rows) e b = b
 
   -- a row is raised to an index whose bound before some run exceeds
@@ -269,7 +286,7 @@ module _ (bounds : List ℤ) (rises : Rises bounds) (Infers : List LoopPoint →
           go (yes less) =
               let le = no_less bounds rises m (j - 1) (omega (arith, less)) (omega (arith, most, some)) in
               let more = lower_law here (suc i) (suc r) (slice_index_or bounds (j - 1) (pos 0)) x (subst (λ z. z ≤ℤ slice_index_or bounds (j - 1) (pos 0)) at_m le) exceeds in
-              absurd (below_law here q (stronger q of infers) infers (suc i) (suc r) x (subst (λ y. IsBounded y (suc r) x) (sym e) (row, is, has)) more)
+              absurd (below_law here q (alike q of) (stronger q of infers) infers (suc i) (suc r) x (subst (λ y. IsBounded y (suc r) x) (sym e) (row, is, has)) more)
 
       new : (x : LoopPoint) → point_at q (suc i) ≡ x → IsBelow bounds (slice_index_or spots i d) x → IsBelow bounds (record (slice_index_or spots i d) { indexes = slice_set (slice_index_or spots i d).indexes r j }) x
       new Bottom e b = b
@@ -349,7 +366,7 @@ pub record Stepped (Infers : List LoopPoint → Type 0) (bounds : List ℤ) (old
   pub forms : forms_of new ≡ forms_of old
   pub left : left (length bounds) new < left (length bounds) old
 
-module _ (bounds : List ℤ) (rises : Rises bounds) (Infers : List LoopPoint → Type 0) (Exceeds : List LoopPoint → ℕ → ℕ → ℤ → Type 0) (lower_law : (q : List LoopPoint) (l row : ℕ) (a b : ℤ) → b ≤ℤ a → Exceeds q l row a → Exceeds q l row b) (below_law : (a b : List LoopPoint) → IsStronger a b → Infers b → (l row : ℕ) (above : ℤ) → IsBounded (point_at b l) row above → ¬ Exceeds a l row above) (spots : List Spot) (searching : IsSearching Infers bounds spots) where
+module _ (bounds : List ℤ) (rises : Rises bounds) (Infers : List LoopPoint → Type 0) (Exceeds : List LoopPoint → ℕ → ℕ → ℤ → Type 0) (lower_law : (q : List LoopPoint) (l row : ℕ) (a b : ℤ) → b ≤ℤ a → Exceeds q l row a → Exceeds q l row b) (below_law : (a b : List LoopPoint) → AreAlike a b → IsStronger a b → Infers b → (l row : ℕ) (above : ℤ) → IsBounded (point_at b l) row above → ¬ Exceeds a l row above) (spots : List Spot) (searching : IsSearching Infers bounds spots) where
   reach_at : (i row : ℕ) (d : Spot) → i < length spots → IsFailedAt (Exceeds (point_of bounds spots) (suc i)) (spot_point bounds (slice_index_or spots i d)) row → (slice_index_or spots i d).reached ≡ false →
       Stepped Infers bounds spots (slice_set spots i (record (slice_index_or spots i d) { reached = true }))
   reach_at i row d lt fails no' = record {
@@ -425,3 +442,29 @@ can bounds Exceeds spots q l row seen again e failed es ea r =
     let same = spot_same spots (l - 1) again seen here.0 ea es in
     let fails = subst (λ (s : Spot). IsFailedAt (Exceeds l) (spot_point bounds s) row) (sym ea) here.1 in
     fails_row bounds (Exceeds l) again row (ap (λ (s : Spot). s.reached) same ∙ sym r) fails
+
+-- and what may be asked of it
+pub can_ask : (bounds : List ℤ) (Exceeds : ℕ → ℕ → ℤ → Type 0) (spots : List Spot) (q : List LoopPoint) (l row : ℕ) (seen again : Spot) → q ≡ point_of bounds spots → IsFailed Exceeds q l row →
+    seen ≡ slice_index_or spots (l - 1) seen → again ≡ slice_index_or spots (l - 1) again → true ≡ seen.reached → IsAskable q l row (slice_index_or bounds (slice_index_or again.indexes (row - 1) 0) (pos 0))
+can_ask bounds Exceeds spots q l row seen again e failed es ea r = record {
+  some = failed.some;
+  within = failed.within;
+  least =
+      (slice_index_or bounds (slice_index_or again.indexes (row - 1) 0) (pos 0), (can bounds (λ l' row' z. IsBounded (point_at q l') row' z) spots q l row seen again e (record { some = failed.some; within = failed.within; fails = bound (point_at q l) failed.fails }) es ea r).exceeded, same_le (slice_index_or bounds (slice_index_or again.indexes (row - 1) 0) (pos 0)));
+}
+  where
+    bound : (x : LoopPoint) → IsFailedAt (Exceeds l) x row → IsFailedAt (λ row z. IsBounded x row z) x row
+    bound Bottom h = (h.0, (λ a. tt))
+    bound (Rows rows) h = (h.0, h.1, h.1)
+
+-- something is left to raise
+some_index : (most : ℕ) (is : List ℕ) (r : ℕ) → r < length is → slice_index_or is r 0 < most → 1 ≤ left_of most is
+some_index most [] r h k = absurd (omega (arith, h))
+some_index most (i ∷ is) zero h k = omega (arith, k)
+some_index most (i ∷ is) (suc r) h k = let e = some_index most is r (omega (arith, h)) k in omega (arith, e)
+
+pub some_raise : (most : ℕ) (spots : List Spot) (i : ℕ) (s : Spot) (r : ℕ) → i < length spots → s ≡ slice_index_or spots i s → r < length s.indexes → slice_index_or s.indexes r 0 < most → 1 ≤ left most spots
+some_raise most [] i s r h e inside less = absurd (omega (arith, h))
+some_raise most (x ∷ xs) zero s r h e inside less =
+    let k = some_index most x.indexes r (subst (λ (y : Spot). r < length y.indexes) e inside) (subst (λ (y : Spot). slice_index_or y.indexes r 0 < most) e less) in omega (arith, k)
+some_raise most (x ∷ xs) (suc i) s r h e inside less = let k = some_raise most xs i s r (omega (arith, h)) e inside less in omega (arith, k)

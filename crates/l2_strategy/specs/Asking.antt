@@ -1,5 +1,5 @@
 -- What a question for a row that some run fails answers.
-use Rattle.std.specs.Prelude.{◌≡◌, ⊤, ℕ, ℤ, ◌≤◌, List, length, Some}
+use Rattle.std.specs.Prelude.{◌≡◌, ⊤, ℕ, ℤ, ◌≤◌, ◌≤ℤ◌, List, length, Some}
 use Rattle.l2_runs.specs.Numbers.{at_number}
 use Rattle.l2_templates.specs.declared.form.Row.{Row}
 use Rattle.l2_templates.specs.declared.point.LoopPoint.{LoopPoint}
@@ -20,3 +20,9 @@ pub record IsFailed (Exceeds : ℕ → ℕ → ℤ → Type 0) (q : List LoopPoi
   pub some : 1 ≤ l
   pub within : l ≤ length q
   pub fails : IsFailedAt (Exceeds l) (point_at q l) row
+
+-- the loop has this row, with a bound that is at most this
+pub record IsAskable (q : List LoopPoint) (l row : ℕ) (above : ℤ) : Type 0 where
+  pub some : 1 ≤ l
+  pub within : l ≤ length q
+  pub least : (bound : ℤ) × IsBounded (point_at q l) row bound × (bound ≤ℤ above)

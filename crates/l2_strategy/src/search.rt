@@ -1,6 +1,6 @@
-ghost use Rattle.std.specs.Prelude.{◌≡◌, ◌<◌, ◌≤◌, ◌-◌, ◌∷◌, ℤ, pos, IfOk, List, OnOk, length, map, slice_index_or};
+ghost use Rattle.std.specs.Prelude.{◌≡◌, ◌<◌, ◌≤◌, ◌-◌, ◌+◌, ◌*◌, ◌^◌, ◌∷◌, ℕ, ℤ, pos, IfOk, List, OnOk, length, map, slice_index_or, sum_by};
 ghost use Rattle.l2_templates.specs.Domains.{Rises};
-ghost use Rattle.l2_strategy.specs.Asking.{IsFailed};
+ghost use Rattle.l2_strategy.specs.Asking.{IsAskable, IsFailed};
 ghost use Rattle.l2_strategy.specs.Places.{AreFit, IsSearching, IsStrongestOf, at_bottom, forms_of, left, point_of};
 
 use crate::asks::{Asks, BrokenRow};
@@ -17,9 +17,12 @@ fn least<A: Asks>(
     bounds: &[i128],
     from: usize,
 ) -> Result<usize, AllocError>
+    requires rises { Rises bounds.now }
     requires inside { from < length bounds.now }
+    requires askable { IsAskable point.now broken.at broken.row (slice_index_or bounds.now from (pos 0)) }
     requires exceeded { A.exceeds (A.problem engine.old) point.now broken.at broken.row (slice_index_or bounds.now from (pos 0)) }
     ensures same { A.problem engine.new ≡ A.problem engine.old }
+    ensures asked { (b : ℕ) → length bounds.now < 2 ^ b → A.asked engine.new ≤ A.asked engine.old + b }
     ensures later { IfOk result (λ j. from < j) }
     ensures within { IfOk result (λ j. j ≤ length bounds.now) }
     ensures exceeded { IfOk result (λ j. A.exceeds (A.problem engine.old) point.now broken.at broken.row (slice_index_or bounds.now (j - 1) (pos 0))) }
@@ -77,6 +80,8 @@ fn raise<A: Asks>(
     requires point { point.now ≡ point_of bounds.now places.old.items }
     requires failed { IsFailed (A.exceeds (A.problem engine.old) point.now) point.now broken.at broken.row }
     ensures same { A.problem engine.new ≡ A.problem engine.old }
+    ensures asked { (b : ℕ) → length bounds.now < 2 ^ b → A.asked engine.new ≤ A.asked engine.old + b }
+    ensures some { 1 ≤ left (length bounds.now) places.old.items }
     ensures searching { OnOk result (IsSearching (A.infers (A.problem engine.old)) bounds.now places.new.items) }
     ensures forms { OnOk result (forms_of places.new.items ≡ forms_of places.old.items) }
     ensures left { OnOk result (left (length bounds.now) places.new.items < left (length bounds.now) places.old.items) }
@@ -93,7 +98,8 @@ fn raise<A: Asks>(
     Ok(())
 }
 
-/// The strongest point of these forms and bounds that infers. The bounds rise.
+/// The strongest point of these forms and bounds that infers. The bounds rise. With L loops, R rows, H bounds and b binary
+/// digits of H it asks at most 1 + (L + R * H) * (1 + b) questions.
 pub fn strongest<A: Asks>(
     alloc: Global,
     engine: &mut A,
@@ -102,6 +108,7 @@ pub fn strongest<A: Asks>(
 ) -> Result<Point, AllocError>
     requires { Rises bounds.now }
     ensures same { A.problem engine.new ≡ A.problem engine.old }
+    ensures asked { (b : ℕ) → length bounds.now < 2 ^ b → A.asked engine.new ≤ A.asked engine.old + 1 + (length forms.now + sum_by (λ f. length f.items) forms.now * length bounds.now) * (1 + b) }
     ensures is { IfOk result (λ p. IsStrongestOf (A.infers (A.problem engine.old)) bounds.now (map (λ f. f.items) forms.now) p) }
 {
     let mut places = bottom(alloc, forms)?;

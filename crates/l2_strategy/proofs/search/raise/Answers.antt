@@ -1,7 +1,8 @@
 use Rattle.std.proofs.Common.{◌<◌, ◌-◌, pos, true, length, sym, ap, ◌∙◌, subst, arith}
 use Rattle.std.specs.Prelude.{slice_index_or, slice_set}
+use Rattle.l2_strategy.specs.Asking.{IsAskable}
 use Rattle.l2_strategy.specs.Places.{Spot}
-use Rattle.l2_strategy.proofs.Raising.{Stepped, failed_at, reach_step, raise_step, spot_same, can}
+use Rattle.l2_strategy.proofs.Raising.{Stepped, failed_at, reach_step, raise_step, spot_same, can, can_ask, some_raise}
 use Rattle.l2_strategy.proofs.search.raise.Goals as goal
 use Rattle.l2_strategy.proofs.search.raise.Given as given
 
@@ -40,6 +41,25 @@ lift g c =
     (sym (ap (λ (s : Spot). s.reached) c.index_mut-2.ensures.value) ∙ ap (λ (s : Spot). s.reached) same ∙ sym c.if-not-is_reached.ensures)
     (omega (arith, index, c.in_ok-to.ensures.later)) c.in_ok-to.ensures.within c.in_ok-to.ensures.exceeded
     (c.raise.ensures ∙ ap (λ (s : Spot). record s { indexes = slice_set s.indexes (c.args.broken.row - 1) c.in_ok-to.to }) c.index_mut-2.ensures.value)
+
+pub returns-then-not-is_reached-clause-some : goal.returns-then-not-is_reached-clause-some
+returns-then-not-is_reached-clause-some g c = let k = (reach g c).left in omega (arith, k)
+
+pub returns-clause-some : goal.returns-clause-some
+returns-clause-some g c = let k = (lift g c).left in omega (arith, k)
+
+pub returns-in_err-to-clause-some : goal.returns-in_err-to-clause-some
+returns-in_err-to-clause-some g c =
+    let here = failed_at c.args.bounds.now c.args.places.now.items c.index.result.now (g.A.Asks.exceeds (g.A.Asks.problem c.args.engine.now) c.args.point.now) c.args.point.now c.args.broken.at c.args.broken.row c.requires.point c.requires.failed in
+    let k = can c.args.bounds.now (g.A.Asks.exceeds (g.A.Asks.problem c.args.engine.now) c.args.point.now) c.args.places.now.items c.args.point.now c.args.broken.at c.args.broken.row c.index.result.now c.index-2.result.now
+    c.requires.point c.requires.failed c.index.ensures c.index-2.ensures c.if-not-is_reached.ensures in
+    some_raise (length c.args.bounds.now) c.args.places.now.items (c.args.broken.at - 1) c.index-2.result.now (c.args.broken.row - 1) here.0 c.index-2.ensures k.inside k.bounded
+
+pub least-requires-clause-askable : goal.least-requires-clause-askable
+least-requires-clause-askable g c =
+    let k = can_ask c.args.bounds.now (g.A.Asks.exceeds (g.A.Asks.problem c.args.engine.now) c.args.point.now) c.args.places.now.items c.args.point.now c.args.broken.at c.args.broken.row c.index.result.now c.index-2.result.now
+    c.requires.point c.requires.failed c.index.ensures c.index-2.ensures c.if-not-is_reached.ensures in
+    subst (λ j. IsAskable c.args.point.now c.args.broken.at c.args.broken.row (slice_index_or c.args.bounds.now j (pos 0))) (sym c.index-from.ensures) k
 
 pub returns-clause-searching : goal.returns-clause-searching
 returns-clause-searching g c = (lift g c).searching

@@ -1,9 +1,10 @@
-use Rattle.std.proofs.Common.{List, map, refl, sym, ap, ◌∙◌, subst}
+use Rattle.std.proofs.Common.{◌+◌, ◌*◌, List, length, map, refl, sym, ap, ◌∙◌, subst}
+use Rattle.std.specs.Prelude.{sum_by}
 use Rattle.l2_templates.specs.declared.form.Form.{Form}
 use Rattle.l2_templates.specs.declared.point.LoopPoint.{LoopPoint}
-use Rattle.l2_strategy.specs.Places.{IsSearching, IsStrongestOf, Spot, forms_of, point_of}
+use Rattle.l2_strategy.specs.Places.{IsSearching, IsStrongestOf, Spot, forms_of, left, point_of}
 use Rattle.l2_strategy.proofs.Raising.{starts, start_forms, ends}
-use Rattle.l2_strategy.proofs.Steps.{of_none, bottoms}
+use Rattle.l2_strategy.proofs.Steps.{of_none, bottoms, IsCounted, counted_first, left_start}
 use Rattle.l2_strategy.proofs.search.strongest.Goals as goal
 
 pub loop-places-init : goal.loop-places-init
@@ -13,6 +14,9 @@ loop-places-init g c =
       refl,
       subst (λ (s : List Spot). IsSearching (g.A.Asks.infers (g.A.Asks.problem c.args.engine.now)) c.args.bounds.now s) is (starts c.args.bounds.now c.requires (g.A.Asks.infers (g.A.Asks.problem c.args.engine.now)) all),
       ap forms_of (sym is) ∙ start_forms c.args.bounds.now c.requires all,
+      subst (λ n. IsCounted (g.A.Asks.asked c.args.engine.now) (g.A.Asks.asked c.args.engine.now) (length c.args.forms.now + sum_by (λ f. length f.items) c.args.forms.now * length c.args.bounds.now) n (length c.args.bounds.now))
+          (sym (left_start (λ f. f.items) (length c.args.bounds.now) c.args.forms.now) ∙ ap (λ s. left (length c.args.bounds.now) s) (sym c.in_ok-places.ensures))
+          (counted_first (g.A.Asks.asked c.args.engine.now) (length c.args.forms.now + sum_by (λ f. length f.items) c.args.forms.now * length c.args.bounds.now) (length c.args.bounds.now)),
     )
 
 pub returns-in-None-clause-is : goal.returns-in-None-clause-is
