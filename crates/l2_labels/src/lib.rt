@@ -1,0 +1,4 @@
+//! Code with one label at each place: a block that ends where the block round it ends is no block of its own.
+#![tactic(auto)]
+
+pub mod laws;
