@@ -1,3 +1,4 @@
 pub mod Sorts
 pub mod Words
 pub mod Blasting
+pub mod Kept
