@@ -1,0 +1,4 @@
+pub mod Parts
+pub mod Made
+pub mod Labels
+pub mod Nodes
