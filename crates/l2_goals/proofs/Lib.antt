@@ -1,0 +1,4 @@
+pub mod Bounded
+pub mod Going
+pub mod Pushed
+pub mod Whole

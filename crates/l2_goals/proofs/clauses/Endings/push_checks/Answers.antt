@@ -1,0 +1,7 @@
+use Rattle.std.proofs.Common.{map}
+use Rattle.l2_gates.specs.Gates.{literals_of}
+use Rattle.l2_goals.proofs.Pushed.{check_pushed}
+use Rattle.l2_goals.proofs.clauses.Endings.push_checks.Goals as goal
+
+pub loop-i-preserved : goal.loop-i-preserved
+loop-i-preserved c = check_pushed c.args.self (map literals_of c.args.last.now) (map literals_of c.loop-i.last) (map literals_of c.push.new.last) c.loop-i.i c.in_ok-check.check c.loop-i.invariant c.in_ok-push.ensures c.in_ok-check.ensures

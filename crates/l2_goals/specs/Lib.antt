@@ -1,0 +1,4 @@
+pub mod Fills
+pub mod Formulas
+pub mod Numbers
+pub mod Kept
