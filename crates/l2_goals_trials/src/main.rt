@@ -94,14 +94,19 @@ fn unfolded(alloc: Global, bytes: &[u8]) -> Result<Vec<u8>, AllocError> {
 /// The bytes of a text, in which `\n` stands for the end of a line.
 fn unescaped(alloc: Global, bytes: &[u8]) -> Result<Vec<u8>, AllocError> {
     let mut all = Vec::new(alloc);
-    let mut i = 0;
-    while i < bytes.len() {
-        if bytes[i] == b'\\' && i + 1 < bytes.len() && bytes[i + 1] == b'n' {
+    let mut escaped = false;
+    for byte in bytes {
+        if escaped && *byte == b'n' {
             all.push(b'\n')?;
-            i += 2;
+            escaped = false;
         } else {
-            all.push(bytes[i])?;
-            i += 1;
+            if escaped {
+                all.push(b'\\')?;
+            }
+            escaped = *byte == b'\\';
+            if !escaped {
+                all.push(*byte)?;
+            }
         }
     }
     Ok(all)
