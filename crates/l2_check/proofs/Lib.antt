@@ -1,0 +1,4 @@
+pub mod Least
+pub mod Refusing
+pub mod Made
+pub mod Sole
