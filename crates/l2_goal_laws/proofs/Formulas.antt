@@ -14,7 +14,7 @@ use Rattle.l2_blast.specs.Blasting.{Blasted}
 use Rattle.l2_ssa_points.specs.Goals.{kind_at, goals}
 use Rattle.l2_ssa_points.specs.Places.{vars_of}
 use Rattle.l2_goals.specs.Fills.{fill_of}
-use Rattle.l2_goals.specs.Formulas.{formulas, formulas_of, formula_of, literals}
+use Rattle.l2_goals.specs.Formulas.{walk_formulas, formulas_of, walk_formula_of, literals}
 use Rattle.l2_goals.specs.Numbers.{numbers, all_numbers}
 use Rattle.l2_goal_laws.specs.Models.{clauses_with, HasModel}
 use Rattle.l2_goal_laws.specs.Law.{NoneHasModels}
@@ -30,27 +30,27 @@ abbrev pub made_at : CodeTree → Family → ℕ → List LoopPoint → Option (
 made_at c f k q ranks = clauses_with c (fill_at c q ranks) (out_at c f k q ranks)
 
 formula_is : (c : CodeTree) (f : Family) (k : ℕ) (q : List LoopPoint) (ranks : Option (List (List Form))) (goal : Goal)
-    → formula_of c f k q ranks goal ≡ (made_at c f k q ranks).made.clauses ++ literals (made_at c f k q ranks).env goal (out_at c f k q ranks).events ∷ []
-unfolding formula_of
+    → walk_formula_of c f k q ranks goal ≡ (made_at c f k q ranks).made.clauses ++ literals (made_at c f k q ranks).env goal (out_at c f k q ranks).events ∷ []
+unfolding walk_formula_of
 formula_is c f k q ranks goal = refl
 
 formulas_are : (c : CodeTree) (f : Family) (k : ℕ) (q : List LoopPoint) (ranks : Option (List (List Form)))
-    → formulas c f k q ranks ≡ formulas_of (made_at c f k q ranks) (out_at c f k q ranks).events (goals (length c.checks) q ranks)
-unfolding formulas
+    → walk_formulas c f k q ranks ≡ formulas_of (made_at c f k q ranks) (out_at c f k q ranks).events (goals (length c.checks) q ranks)
+unfolding walk_formulas
 formulas_are c f k q ranks = refl
 
 module _ (c : CodeTree) (f : Family) (k : ℕ) (q : List LoopPoint) (ranks : Option (List (List Form))) where
   abbrev clause : Goal → List Lit
   clause goal = literals (made_at c f k q ranks).env goal (out_at c f k q ranks).events
 
-  pub formula_met : (goal : Goal) → (v : ℕ → Bool) × Satisfies v (all_numbers (formula_of c f k q ranks goal)) → HasModel c (fill_at c q ranks) (out_at c f k q ranks) goal
+  pub formula_met : (goal : Goal) → (v : ℕ → Bool) × Satisfies v (all_numbers (walk_formula_of c f k q ranks goal)) → HasModel c (fill_at c q ranks) (out_at c f k q ranks) goal
   formula_met goal (v, h) =
       let base = (made_at c f k q ranks).made.clauses in
       let all = subst (λ cs. Satisfies v (all_numbers cs)) (formula_is c f k q ranks goal) h in
       let parts = all_parts (by_index v) base (clause goal) (all_back v (base ++ clause goal ∷ []) all) in
       (by_index v, (parts.0, parts.1))
 
-  pub met_formula : (goal : Goal) → HasModel c (fill_at c q ranks) (out_at c f k q ranks) goal → (v : ℕ → Bool) × Satisfies v (all_numbers (formula_of c f k q ranks goal))
+  pub met_formula : (goal : Goal) → HasModel c (fill_at c q ranks) (out_at c f k q ranks) goal → (v : ℕ → Bool) × Satisfies v (all_numbers (walk_formula_of c f k q ranks goal))
   met_formula goal (v, (ok, t)) =
       let base = (made_at c f k q ranks).made.clauses in
       (by_variable v, subst (λ cs. Satisfies (by_variable v) (all_numbers cs)) (sym (formula_is c f k q ranks goal)) (all_satisfied v (base ++ clause goal ∷ []) (all_with v base (clause goal) ok t)))
@@ -66,5 +66,5 @@ module _ (c : CodeTree) (f : Family) (k : ℕ) (q : List LoopPoint) (ranks : Opt
       none i within (by_variable v) (subst (λ last. Satisfies (by_variable v) (all_numbers base ++ last ∷ [])) (sym at) (satisfied v base (clause goal) ok t))
 
   -- where no formula has a model no listed goal has one
-  pub none_met : NoneHasModels (formulas c f k q ranks) → (goal : Goal) → Contains (goals (length c.checks) q ranks) goal → HasModel c (fill_at c q ranks) (out_at c f k q ranks) goal → ⊥
+  pub none_met : NoneHasModels (walk_formulas c f k q ranks) → (goal : Goal) → Contains (goals (length c.checks) q ranks) goal → HasModel c (fill_at c q ranks) (out_at c f k q ranks) goal → ⊥
   none_met none goal listed m = none_of (subst NoneHasModels (formulas_are c f k q ranks) none) goal listed m

@@ -10,16 +10,18 @@ use Rattle.l2_run_laws.specs.Watches.{alone}
 use Rattle.l2_templates.specs.declared.form.Form.{Form}
 use Rattle.l2_templates.specs.declared.point.LoopPoint.{LoopPoint}
 use Rattle.l2_program.specs.Programs.{ProgramTree}
-use Rattle.l2_meaning.specs.Execution.{cells_of, IsBroken}
-use Rattle.l2_meaning.specs.Pointing.{AreClosed}
+use Rattle.l2_meaning.specs.Execution.{cells_of, report, IsBroken}
+use Rattle.l2_meaning.specs.Pointing.{Sets, AreClosed}
 use Rattle.l2_meaning.specs.Lawful.{IsLawful}
 use Rattle.l2_code.specs.declared.code.CodeObject.{CodeObject}
 use Rattle.l2_code.specs.Trees.{CodeTree}
-use Rattle.l2_code.specs.Sets.{Family, HasCell, IsResolved}
-use Rattle.l2_code.specs.Modes.{types_of, object_cells}
+use Rattle.l2_code.specs.Sets.{Family, HasCell, IsClosed, IsResolved}
+use Rattle.l2_code.specs.Modes.{types_of, object_cells, start}
+use Rattle.l2_code.specs.WellFormed.{IsWellFormed}
 use Rattle.l2_lower.specs.Alike.{exec_code}
 use Rattle.l2_lower.specs.Code.{code}
-use Rattle.l2_cuts.specs.Cuts.{rows_at, watched, cut_end, row_end, IsFallen, Proves, RankProves}
+use Rattle.l2_labels.specs.Labels.{one_label}
+use Rattle.l2_cuts.specs.Cuts.{rows_at, watched, cut_limit, cut_end, row_end, IsFallen, Infers, Proves, TurnsPass, RankProves}
 use Rattle.l2_cuts.specs.Points.{lowers}
 use Rattle.l2_cut_code.specs.Limits.{NameCells, point_limit}
 use Rattle.l2_ssa.specs.Walks.{Goal, RowGoal, RankGoal, CheckGoal}
@@ -30,8 +32,9 @@ use Rattle.l2_ssa_laws.specs.Events.{IsNamed, HasRows}
 use Rattle.l2_ssa_laws.specs.Rankings.{IsWatch}
 use Rattle.l2_ssa_points.specs.Goals.{kind_at, row_goals, check_goals}
 use Rattle.l2_ssa_points.specs.Meanings.{rows_say, ranks_say}
-use Rattle.l2_ssa_points.specs.Places.{vars_of}
-use Rattle.l2_goals.specs.Formulas.{formulas}
+use Rattle.l2_ssa_points.specs.Places.{vars_of, or_no_ranks}
+use Rattle.l2_goals.specs.Formulas.{walk_formulas}
+use Rattle.l2_goals.specs.Numbers.{all_numbers}
 use Rattle.l2_goal_laws.specs.Fits.{AreOf}
 use Rattle.l2_goal_laws.specs.Models.{IsReady, Fills, AreLower, HasModel}
 use Rattle.l2_goal_laws.specs.Law.{IsMissed, passes_one, TurnsAreRuns, NoneHasModels, FormulasAreRuns, RunsAreListed, PointsProve, RanksProve}
@@ -83,7 +86,7 @@ module _ (a : Laws) (p : ProgramTree) (f : Family) (c : CodeTree) (ready : IsRea
     safe_met (RankGoal l) h m = absurd (cc h.0)
     safe_met (CheckGoal n) h m = (check_found m.0 n m.1).1
 
-    module _ (none : NoneHasModels (formulas c f k q None)) where
+    module _ (none : NoneHasModels (walk_formulas c f k q None)) where
       no_row : (choices : List ℤ) (x : End) → row_end p f.object k q choices ≡ x → IsFallen x → ⊥
       no_row choices (Over o) e h = absurd h
       no_row choices (Fallen l i) e h = let m = row_found choices l i e in none_met c f k q None none (RowGoal l i) (named_listed c q fit.loops None (RowGoal l i) m.0) m.1
@@ -112,7 +115,7 @@ module _ (a : Laws) (p : ProgramTree) (f : Family) (c : CodeTree) (ready : IsRea
         rank_met a.below a.runs c f ready k some q (Some rs) (are_over c q (Some rs) fit) (ranks_say (vars_of c) (Some rs)) (lowers rs) (forms_lower c q rs (are_over c q (Some rs) fit)) (fill_at c q (Some rs)) (fills (Some rs) fit) l h.1 (code_ends (watched q (passes_one (lowers rs) l)) (Fallen l (length (rows_at q l) + 1)) m.0 m.1)
     ranks_met (CheckGoal n) h m = absurd (cc h)
 
-    module _ (none : NoneHasModels (formulas c f k q (Some rs))) where
+    module _ (none : NoneHasModels (walk_formulas c f k q (Some rs))) where
       no_turn : (choices : List ℤ) (x : End) → cut_end p f.object k q (watched q (lowers rs)) choices ≡ x → IsFallen x → ⊥
       no_turn choices (Over o) e h = absurd h
       no_turn choices (Fallen l i) e h =
@@ -147,45 +150,52 @@ module _ (a : Laws) (p : ProgramTree) (lawful : IsLawful p) (f : Family) (resolv
   name_cells : NameCells (cells_of p) f.object
   name_cells n o h = subst (λ (cells : Layout). 0 < length (cells o)) (a.cells p) (has_cell o (resolved.over.objects n o h))
 
-  pub does_like : DoesLike p f (code p)
-  does_like k q tests choices = ap (λ e. e.end) (a.executions p lawful f name_cells k q tests choices 0)
+  pub does_like : DoesLike p f (one_label (code p))
+  does_like k q tests choices =
+      ap (λ e. e.end) (a.executions p lawful f name_cells k q tests choices 0)
+      ∙ ap (λ r. (report choices 0 r).end) (sym (a.runs_alike (code p) (point_limit (code p) f k q) tests (start (code p) choices 0)))
 
-  pub is_ready : IsReady (code p) f
-  is_ready = record { well_formed = a.well_formed p lawful; resolved = resolved; direct = a.direct p lawful }
+  pub is_ready : IsReady (one_label (code p)) f
+  is_ready = record {
+    well_formed = a.stays_well_formed (code p) (a.well_formed p lawful);
+    resolved = a.stays_resolved (code p) f resolved;
+    direct = a.stays_direct (types_of (code p)).objects (code p) (a.direct p lawful);
+  }
 
   pub are_closed : AreClosed p f.object
   are_closed = a.closed p lawful f resolved.closed
 
+-- a point that fits the code fits it with one label at each place
+one_fit : (c : CodeTree) (q : List LoopPoint) (ranks : Option (List (List Form))) → AreOf c q ranks → AreOf (one_label c) q ranks
+one_fit c q ranks fit = record { loops = fit.loops; rows = fit.rows; rankings = fit.rankings }
+
 pub formulas_are_runs : Laws → FormulasAreRuns
 formulas_are_runs a p lawful f resolved k some q None fit goal listed =
-    let asked = listed_asked (length (code p).checks) q None goal listed in (
-      λ m. safe_missed a p f (code p) (is_ready a p lawful f resolved) (does_like a p lawful f resolved) k some q fit goal asked (formula_met (code p) f k q None goal m),
-      λ m. met_formula (code p) f k q None goal (safe_met a p f (code p) (is_ready a p lawful f resolved) (does_like a p lawful f resolved) k some q fit goal asked m),
-    )
+    let asked = listed_asked (length (code p).checks) q None goal listed in
+    (λ m. safe_missed a p f (one_label (code p)) (is_ready a p lawful f resolved) (does_like a p lawful f resolved) k some q (one_fit (code p) q None fit) goal asked (formula_met (one_label (code p)) f k q None goal m),
+    λ m. met_formula (one_label (code p)) f k q None goal (safe_met a p f (one_label (code p)) (is_ready a p lawful f resolved) (does_like a p lawful f resolved) k some q (one_fit (code p) q None fit) goal asked m))
 formulas_are_runs a p lawful f resolved k some q (Some rs) fit goal listed =
-    let asked = listed_asked (length (code p).checks) q (Some rs) goal listed in (
-      λ m. rank_missed a p f (code p) (is_ready a p lawful f resolved) (does_like a p lawful f resolved) k some q rs fit goal asked (formula_met (code p) f k q (Some rs) goal m),
-      λ m. met_formula (code p) f k q (Some rs) goal (ranks_met a p f (code p) (is_ready a p lawful f resolved) (does_like a p lawful f resolved) k some q rs fit goal asked m),
-    )
+    let asked = listed_asked (length (code p).checks) q (Some rs) goal listed in
+    (λ m. rank_missed a p f (one_label (code p)) (is_ready a p lawful f resolved) (does_like a p lawful f resolved) k some q rs (one_fit (code p) q (Some rs) fit) goal asked (formula_met (one_label (code p)) f k q (Some rs) goal m),
+    λ m. met_formula (one_label (code p)) f k q (Some rs) goal (ranks_met a p f (one_label (code p)) (is_ready a p lawful f resolved) (does_like a p lawful f resolved) k some q rs (one_fit (code p) q (Some rs) fit) goal asked m))
 
 pub runs_are_listed : Laws → RunsAreListed
 runs_are_listed a = record {
-  rows = λ p lawful f resolved k some q fit choices l i e. rows_listed a p f (code p) (is_ready a p lawful f resolved) (does_like a p lawful f resolved) k some q fit choices l i e;
-  checks = λ p lawful f resolved k some q fit choices n e. checks_listed a p f (code p) (is_ready a p lawful f resolved) (does_like a p lawful f resolved) k some q fit choices n e;
+  rows = λ p lawful f resolved k some q fit choices l i e. rows_listed a p f (one_label (code p)) (is_ready a p lawful f resolved) (does_like a p lawful f resolved) k some q (one_fit (code p) q None fit) choices l i e;
+  checks = λ p lawful f resolved k some q fit choices n e. checks_listed a p f (one_label (code p)) (is_ready a p lawful f resolved) (does_like a p lawful f resolved) k some q (one_fit (code p) q None fit) choices n e;
 }
 
 pub points_prove : Laws → PointsProve
 points_prove a p lawful f resolved k some q fit none =
-    let it = proves a p f (code p) (is_ready a p lawful f resolved) (does_like a p lawful f resolved) k some q fit none in
+    let it = proves a p f (one_label (code p)) (is_ready a p lawful f resolved) (does_like a p lawful f resolved) k some q (one_fit (code p) q None fit) none in
     (it, a.safe p lawful f.object (are_closed a p lawful f resolved) k some q it)
 
 pub ranks_prove : Laws → RanksProve
 ranks_prove a p lawful f resolved k some q r fit none =
-    let it = rank_proves a p f (code p) (is_ready a p lawful f resolved) (does_like a p lawful f resolved) k some q r fit none in
+    let it = rank_proves a p f (one_label (code p)) (is_ready a p lawful f resolved) (does_like a p lawful f resolved) k some q r (one_fit (code p) q (Some r) fit) none in
     (it, a.terminating p lawful f.object (are_closed a p lawful f resolved) k some q r it)
 
 pub turns_are_runs : Laws → TurnsAreRuns
-turns_are_runs a p lawful f resolved k some q fit fill lower low same filled l rows = (
-  λ m. turn_missed a p f (code p) (is_ready a p lawful f resolved) (does_like a p lawful f resolved) k some q fit fill lower low same filled l m,
-  λ m. turn_met a p f (code p) (is_ready a p lawful f resolved) (does_like a p lawful f resolved) k some q fit fill lower low same filled l rows m,
-)
+turns_are_runs a p lawful f resolved k some q fit fill lower low same filled l rows =
+    (λ m. turn_missed a p f (one_label (code p)) (is_ready a p lawful f resolved) (does_like a p lawful f resolved) k some q (one_fit (code p) q None fit) fill lower low same filled l m,
+    λ m. turn_met a p f (one_label (code p)) (is_ready a p lawful f resolved) (does_like a p lawful f resolved) k some q (one_fit (code p) q None fit) fill lower low same filled l rows m)

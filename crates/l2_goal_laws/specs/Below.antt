@@ -15,7 +15,8 @@ use Rattle.l2_lower.specs.Code.{code}
 use Rattle.l2_cuts.specs.Cuts.{cut_limit, Proves, RankProves}
 use Rattle.l2_cuts.specs.Turns.{Terminating}
 use Rattle.l2_cut_code.specs.Limits.{NameCells, point_limit}
-use Rattle.l2_direct_code.specs.Law.{CodeIsDirect}
+use Rattle.l2_labels.specs.Law.{RunsAlike, StaysWellFormed, StaysResolved}
+use Rattle.l2_direct_code.specs.Law.{CodeIsDirect, StaysDirect}
 use Rattle.l2_ssa.specs.Steps.{Step}
 use Rattle.l2_ssa.specs.Law.{SolutionsRun, StepsInOrder}
 use Rattle.l2_ssa_laws.specs.Entering.{RunsEnter}
@@ -65,6 +66,10 @@ pub record Laws : Type 0 where
   pub mean : FillsMean
   pub well_formed : (p : ProgramTree) → IsLawful p → IsWellFormed (code p)
   pub direct : CodeIsDirect
+  pub runs_alike : RunsAlike
+  pub stays_well_formed : StaysWellFormed
+  pub stays_resolved : StaysResolved
+  pub stays_direct : StaysDirect
   pub cells : (p : ProgramTree) → (types_of (code p)).objects ≡ cells_of p
   pub closed : (p : ProgramTree) → IsLawful p → (f : Family) → IsClosed (code p) f → AreClosed p f.object
   pub executions : (p : ProgramTree) → IsLawful p → (f : Family) → NameCells (cells_of p) f.object → (k : ℕ) (q : List LoopPoint) (tests : Tests) (choices : List ℤ) (turns : ℕ)

@@ -13,6 +13,7 @@ use Rattle.l2_meaning.specs.Execution.{Safe}
 use Rattle.l2_meaning.specs.Lawful.{IsLawful}
 use Rattle.l2_code.specs.Sets.{Family, IsResolved}
 use Rattle.l2_lower.specs.Code.{code}
+use Rattle.l2_labels.specs.Labels.{one_label}
 use Rattle.l2_cuts.specs.Points.{lowers}
 use Rattle.l2_cuts.specs.Cuts.{rows_at, watched, cut_end, row_end, Proves, RankProves}
 use Rattle.l2_cuts.specs.Turns.{Terminating}
@@ -52,9 +53,9 @@ FormulasAreRuns =
 abbrev pub TurnsAreRuns : Type 0
 TurnsAreRuns =
     (p : ProgramTree) → IsLawful p → (f : Family) → IsResolved (code p) f → (k : ℕ) → 1 ≤ k → (q : List LoopPoint) → AreOf (code p) q None
-    → (fill : Fill) (lower : RanksOf) (low : ℕ → Store → Store → Bool) → AreLower (code p) lower low → Fills (code p) fill (rows_say (vars_of (code p)) q) lower
+    → (fill : Fill) (lower : RanksOf) (low : ℕ → Store → Store → Bool) → AreLower (one_label (code p)) lower low → Fills (one_label (code p)) fill (rows_say (vars_of (code p)) q) lower
     → (l : ℕ) → HasRows (kind_at q l)
-    → HasModel (code p) fill (ssa (code p) f k (kind_at q) true) (RankGoal l) ↔ ((choices : List ℤ) × (cut_end p f.object k q (watched q (passes_one low l)) choices ≡ Fallen l (length (rows_at q l) + 1)))
+    → HasModel (one_label (code p)) fill (ssa (one_label (code p)) f k (kind_at q) true) (RankGoal l) ↔ ((choices : List ℤ) × (cut_end p f.object k q (watched q (passes_one low l)) choices ≡ Fallen l (length (rows_at q l) + 1)))
 
 -- the rows that cut runs fail, and the checks that they break, are among the goals
 pub record RunsAreListed : Type 0 where

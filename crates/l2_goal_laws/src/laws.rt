@@ -58,6 +58,10 @@ fn programs()
     l2_lower::laws::code_does_what_its_program_does();
     l2_lower::laws::code_has_the_sets_of_its_program();
     l2_direct_code::laws::code_is_direct();
+    l2_direct_code::laws::direct_with_one_label();
+    l2_labels::laws::runs_alike();
+    l2_labels::laws::stays_well_formed();
+    l2_labels::laws::stays_resolved();
     l2_cut_code::laws::points_on_code();
     l2_cut_laws::laws::cut_law();
     l2_cut_laws::laws::turn_bound();
