@@ -11,17 +11,16 @@ use Rattle.l2_templates.specs.declared.form.Form.{Form}
 use Rattle.l2_templates.specs.declared.point.LoopPoint.{LoopPoint}
 use Rattle.l2_program.specs.Programs.{ProgramTree}
 use Rattle.l2_meaning.specs.Execution.{cells_of, report, IsBroken}
-use Rattle.l2_meaning.specs.Pointing.{Sets, AreClosed}
+use Rattle.l2_meaning.specs.Pointing.{AreClosed}
 use Rattle.l2_meaning.specs.Lawful.{IsLawful}
 use Rattle.l2_code.specs.declared.code.CodeObject.{CodeObject}
 use Rattle.l2_code.specs.Trees.{CodeTree}
-use Rattle.l2_code.specs.Sets.{Family, HasCell, IsClosed, IsResolved}
+use Rattle.l2_code.specs.Sets.{Family, HasCell, IsResolved}
 use Rattle.l2_code.specs.Modes.{types_of, object_cells, start}
-use Rattle.l2_code.specs.WellFormed.{IsWellFormed}
 use Rattle.l2_lower.specs.Alike.{exec_code}
 use Rattle.l2_lower.specs.Code.{code}
 use Rattle.l2_labels.specs.Labels.{one_label}
-use Rattle.l2_cuts.specs.Cuts.{rows_at, watched, cut_limit, cut_end, row_end, IsFallen, Infers, Proves, TurnsPass, RankProves}
+use Rattle.l2_cuts.specs.Cuts.{rows_at, watched, cut_end, row_end, IsFallen, Proves, RankProves}
 use Rattle.l2_cuts.specs.Points.{lowers}
 use Rattle.l2_cut_code.specs.Limits.{NameCells, point_limit}
 use Rattle.l2_ssa.specs.Walks.{Goal, RowGoal, RankGoal, CheckGoal}
@@ -32,9 +31,8 @@ use Rattle.l2_ssa_laws.specs.Events.{IsNamed, HasRows}
 use Rattle.l2_ssa_laws.specs.Rankings.{IsWatch}
 use Rattle.l2_ssa_points.specs.Goals.{kind_at, row_goals, check_goals}
 use Rattle.l2_ssa_points.specs.Meanings.{rows_say, ranks_say}
-use Rattle.l2_ssa_points.specs.Places.{vars_of, or_no_ranks}
+use Rattle.l2_ssa_points.specs.Places.{vars_of}
 use Rattle.l2_goals.specs.Formulas.{walk_formulas}
-use Rattle.l2_goals.specs.Numbers.{all_numbers}
 use Rattle.l2_goal_laws.specs.Fits.{AreOf}
 use Rattle.l2_goal_laws.specs.Models.{IsReady, Fills, AreLower, HasModel}
 use Rattle.l2_goal_laws.specs.Law.{IsMissed, passes_one, TurnsAreRuns, NoneHasModels, FormulasAreRuns, RunsAreListed, PointsProve, RanksProve}
@@ -171,13 +169,15 @@ one_fit c q ranks fit = record { loops = fit.loops; rows = fit.rows; rankings = 
 
 pub formulas_are_runs : Laws → FormulasAreRuns
 formulas_are_runs a p lawful f resolved k some q None fit goal listed =
-    let asked = listed_asked (length (code p).checks) q None goal listed in
-    (λ m. safe_missed a p f (one_label (code p)) (is_ready a p lawful f resolved) (does_like a p lawful f resolved) k some q (one_fit (code p) q None fit) goal asked (formula_met (one_label (code p)) f k q None goal m),
-    λ m. met_formula (one_label (code p)) f k q None goal (safe_met a p f (one_label (code p)) (is_ready a p lawful f resolved) (does_like a p lawful f resolved) k some q (one_fit (code p) q None fit) goal asked m))
+    let asked = listed_asked (length (code p).checks) q None goal listed in (
+      λ m. safe_missed a p f (one_label (code p)) (is_ready a p lawful f resolved) (does_like a p lawful f resolved) k some q (one_fit (code p) q None fit) goal asked (formula_met (one_label (code p)) f k q None goal m),
+      λ m. met_formula (one_label (code p)) f k q None goal (safe_met a p f (one_label (code p)) (is_ready a p lawful f resolved) (does_like a p lawful f resolved) k some q (one_fit (code p) q None fit) goal asked m),
+    )
 formulas_are_runs a p lawful f resolved k some q (Some rs) fit goal listed =
-    let asked = listed_asked (length (code p).checks) q (Some rs) goal listed in
-    (λ m. rank_missed a p f (one_label (code p)) (is_ready a p lawful f resolved) (does_like a p lawful f resolved) k some q rs (one_fit (code p) q (Some rs) fit) goal asked (formula_met (one_label (code p)) f k q (Some rs) goal m),
-    λ m. met_formula (one_label (code p)) f k q (Some rs) goal (ranks_met a p f (one_label (code p)) (is_ready a p lawful f resolved) (does_like a p lawful f resolved) k some q rs (one_fit (code p) q (Some rs) fit) goal asked m))
+    let asked = listed_asked (length (code p).checks) q (Some rs) goal listed in (
+      λ m. rank_missed a p f (one_label (code p)) (is_ready a p lawful f resolved) (does_like a p lawful f resolved) k some q rs (one_fit (code p) q (Some rs) fit) goal asked (formula_met (one_label (code p)) f k q (Some rs) goal m),
+      λ m. met_formula (one_label (code p)) f k q (Some rs) goal (ranks_met a p f (one_label (code p)) (is_ready a p lawful f resolved) (does_like a p lawful f resolved) k some q rs (one_fit (code p) q (Some rs) fit) goal asked m),
+    )
 
 pub runs_are_listed : Laws → RunsAreListed
 runs_are_listed a = record {
@@ -196,6 +196,7 @@ ranks_prove a p lawful f resolved k some q r fit none =
     (it, a.terminating p lawful f.object (are_closed a p lawful f resolved) k some q r it)
 
 pub turns_are_runs : Laws → TurnsAreRuns
-turns_are_runs a p lawful f resolved k some q fit fill lower low same filled l rows =
-    (λ m. turn_missed a p f (one_label (code p)) (is_ready a p lawful f resolved) (does_like a p lawful f resolved) k some q (one_fit (code p) q None fit) fill lower low same filled l m,
-    λ m. turn_met a p f (one_label (code p)) (is_ready a p lawful f resolved) (does_like a p lawful f resolved) k some q (one_fit (code p) q None fit) fill lower low same filled l rows m)
+turns_are_runs a p lawful f resolved k some q fit fill lower low same filled l rows = (
+  λ m. turn_missed a p f (one_label (code p)) (is_ready a p lawful f resolved) (does_like a p lawful f resolved) k some q (one_fit (code p) q None fit) fill lower low same filled l m,
+  λ m. turn_met a p f (one_label (code p)) (is_ready a p lawful f resolved) (does_like a p lawful f resolved) k some q (one_fit (code p) q None fit) fill lower low same filled l rows m,
+)

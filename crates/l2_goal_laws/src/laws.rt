@@ -58,7 +58,7 @@ fn programs()
     l2_lower::laws::code_does_what_its_program_does();
     l2_lower::laws::code_has_the_sets_of_its_program();
     l2_direct_code::laws::code_is_direct();
-    l2_direct_code::laws::direct_with_one_label();
+    l2_direct_code::laws::stays_direct();
     l2_labels::laws::runs_alike();
     l2_labels::laws::stays_well_formed();
     l2_labels::laws::stays_resolved();
