@@ -13,7 +13,7 @@ use Rattle.l2_code.specs.declared.action.Action.TheVariants as action
 use Rattle.l2_code.specs.Trees.{Node, Do, Block, Loop, Nodes, none, more, CodeTree}
 use Rattle.l2_code.specs.Modes.{pointed_cells}
 use Rattle.l2_code.specs.Sets.{Family}
-use Rattle.l2_code.specs.Sizes.{reach, first_reach, test_weight, computation_weight, weight, head_weight, end_weight, node_size, nodes_size, size}
+use Rattle.l2_code.specs.Sizes.{reach, first_reach, test_weight, computation_weight, weight, head_weight, end_weight, node_size, nodes_size}
 use Rattle.l2_labels.specs.Labels.{redirected, where_last, single, at_end, merged, one_label}
 use Rattle.l2_labels.specs.Law.{WeighsAlike}
 

@@ -1,4 +1,3 @@
-use Rattle.std.proofs.Common.{ℕ}
 use Rattle.l2_labels.proofs.labels.+blocks_left.Given as goal
 
 abbrev pub decreases-blocks_left : goal.decreases-blocks_left

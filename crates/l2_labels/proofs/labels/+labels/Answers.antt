@@ -1,4 +1,4 @@
-use Rattle.std.proofs.Common.{arith, ◌≡◌, ap, sym, ◌∙◌, ◌+◌, ◌∷◌, drop, true, false}
+use Rattle.std.proofs.Common.{arith, ap, sym, ◌∙◌, ◌+◌, ◌∷◌, drop, true, false}
 use Rattle.std.proofs.lemmas.List.{drop_more}
 use Rattle.l2_code.specs.Trees.{Loop, tree_of, items_of}
 use Rattle.l2_code.proofs.Items.{tree_of-Block, tree_of-Loop}

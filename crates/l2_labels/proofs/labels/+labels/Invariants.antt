@@ -1,4 +1,4 @@
-use Rattle.std.proofs.Common.{◌≡◌, ℕ, drop}
+use Rattle.std.proofs.Common.{◌≡◌, drop}
 use Rattle.l2_code.specs.Trees.{items_of, join}
 use Rattle.l2_labels.specs.Spliced.{singles}
 use Rattle.l2_labels.proofs.labels.+labels.Given as goal
