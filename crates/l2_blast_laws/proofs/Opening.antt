@@ -21,7 +21,7 @@ use Rattle.l2_blast.specs.Sorts.{Sort, Truth, Part, Cell, Sorts, sort_of, sorts_
 use Rattle.l2_blast.specs.Words.{Named, Env, name, first, literal, Setting, bit_word, blank, word_of}
 use Rattle.l2_blast.specs.Blasting.{blast}
 use Rattle.l2_blast_laws.specs.Law.{shown, solution, RowHolds, RowsHold, meaning_of, IsChosen}
-use Rattle.l2_blast_laws.specs.Behind.{behind, open_setting, IsAsSaid, AreAsSaid, OpenIsMade, OpenRowsHaveModels, SaidRowsHold}
+use Rattle.l2_blast_laws.specs.Behind.{AgreedShowSame, behind, open_setting, IsAsSaid, AreAsSaid, OpenIsMade, OpenRowsHaveModels, SaidRowsHold}
 use Rattle.l2_blast_laws.proofs.Circuits.{Circuits}
 use Rattle.l2_blast_laws.proofs.Envs.{EnvBelow, name_below}
 use Rattle.l2_blast_laws.proofs.Making.{fresh_makes}
@@ -66,6 +66,9 @@ module _ (n : ℕ) (v u : ℕ → Bool) (a : Agree n v u) (some : 0 < n) where
   operands_same : (env : Env) → EnvBelow n env → (xs : List Operand) → values_of (solution env u) xs ≡ values_of (solution env v) xs
   operands_same env h [] = refl
   operands_same env h (x ∷ xs) = λ i. operand_same env h x i ∷ operands_same env h xs i
+
+pub agreed_show_same : AgreedShowSame
+agreed_show_same env n some below v u a = λ i k. shown_same n v u a (omega (arith, some)) (name env k).sort (name env k).bits (below k) i
 
 -- ---- and where there are more names
 

@@ -1,5 +1,5 @@
 -- The same of equations whose clauses stand behind others, and of rows that are filled with variables of their own.
-use Rattle.std.specs.Prelude.{◌≡◌, ℕ, suc, Bool, true, false, ℤ, List, [], ◌∷◌, length, map}
+use Rattle.std.specs.Prelude.{◌≡◌, ℕ, suc, ◌≤◌, Bool, true, false, ℤ, List, [], ◌∷◌, length, map}
 use Rattle.l2_runs.specs.declared.cells.CellValue.{CellValue}
 use Rattle.l2_runs.specs.declared.cells.CellValue.TheVariants.{Number}
 use Rattle.l2_code.specs.declared.action.Operand.{Operand}
@@ -51,6 +51,10 @@ pub record StandsBehind (s : Setting) (xs : List Step) (m : Made) : Type 0 where
 
 abbrev pub BlastingMakesBehind : Type 0
 BlastingMakesBehind = (s : Setting) → IsMade s.fill → (m : Made) → Sound m → (xs : List Step) → StandsBehind s xs m
+
+-- names show the same in assignments that agree on the variables that are there
+abbrev pub AgreedShowSame : Type 0
+AgreedShowSame = (env : Env) (n : ℕ) → 1 ≤ n → ((i : ℕ) → AllBelow n (name env i).bits) → (v u : ℕ → Bool) → Agree n v u → solution env u ≡ solution env v
 
 -- for all values of the choices each model of what was made before goes on to one that shows these
 abbrev pub ChoicesHaveModelsBehind : Type 0

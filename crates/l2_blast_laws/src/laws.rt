@@ -1,6 +1,6 @@
 //! What holds of the clauses of equations.
 ghost use Rattle.l2_blast_laws.specs.Law.{ModelsSolve, FillsHold, ChoicesHaveModels, BlastingMakes, LiteralsShow};
-ghost use Rattle.l2_blast_laws.specs.Behind.{BlastingMakesBehind, ChoicesHaveModelsBehind, FillsHoldBehind, LiteralsShowBehind, ModelsSolveBehind, NumbersShowBehind, OpenIsMade, OpenRowsHaveModels, SaidRowsHold};
+ghost use Rattle.l2_blast_laws.specs.Behind.{AgreedShowSame, BlastingMakesBehind, ChoicesHaveModelsBehind, FillsHoldBehind, LiteralsShowBehind, ModelsSolveBehind, NumbersShowBehind, OpenIsMade, OpenRowsHaveModels, SaidRowsHold};
 
 /// In each model of the clauses the words show a solution of the equations, where they show one of the equations of rows.
 pub fn models_solve()
@@ -46,6 +46,11 @@ pub fn choices_have_models_behind()
 /// The clauses before stay, and each of their models goes on; words are of variables that are there.
 pub fn blasting_makes_behind()
     ensures { BlastingMakesBehind }
+{}
+
+/// Names show the same in assignments that agree on the variables that are there.
+pub fn agreed_show_same()
+    ensures { AgreedShowSame }
 {}
 
 /// The literal of a truth value has its value, and the words of numbers show these.
