@@ -18,6 +18,8 @@ use Rattle.l2_blast_laws.specs.Law.{solution, AreMet}
 use Rattle.l2_blast_laws.specs.Behind.{ModelsSolveBehind, BlastingMakesBehind, AgreedShowSame, OpenIsMade, OpenRowsHaveModels, SaidRowsHold, AreAsSaid, StandsBehind}
 use Rattle.l2_typed_steps.specs.Law.{StepsAreTyped}
 use Rattle.l2_given_steps.specs.Law.{ChoicesMatch}
+use Rattle.l2_said_rows.specs.Law.{SaidRows}
+use Rattle.l2_said_rows.specs.Eventing.{SomeEventIs}
 use Rattle.l2_grown_laws.specs.Questions.{Question, Asks, IsPut, asked_point}
 use Rattle.l2_grown_laws.specs.Grown.{grown_kind, grown_rows, grown_ssa, HasRoom}
 use Rattle.l2_grown_laws.specs.Law.{SolvesGrown, QuestionsAreRuns}
@@ -36,6 +38,8 @@ pub record Below : Type 0 where
   pub makes : BlastingMakesBehind
   pub show_same : AgreedShowSame
   pub questions : QuestionsAreRuns
+  pub said_rows : SaidRows
+  pub some_event : SomeEventIs
 
 module _ (b : Below) (p : ProgramTree) (f : Family) (c : CodeTree) (it : IsAskable p f c) (k : ℕ) (some : 1 ≤ k) (counts : ℕ → ℕ) (x : Question) (put : IsPut x) (over : AreOver c (asked_point x) None) (room : HasRoom counts (asked_point x))
     (before : Made) (so : Sound before) (m : Made) where
@@ -51,10 +55,10 @@ module _ (b : Below) (p : ProgramTree) (f : Family) (c : CodeTree) (it : IsAskab
   abbrev row : RowsOf
   row = grown_rows (vars_of c) (asked_point x)
 
-  in_order : InOrder 0 o.steps
+  pub in_order : InOrder 0 o.steps
   in_order = (b.in_order c f k (grown_kind counts) false).0
 
-  typed : AreTyped (types_of c) (sorts_of o.steps) o.steps
+  pub typed : AreTyped (types_of c) (sorts_of o.steps) o.steps
   typed = (b.typed c f it.code_of.well_formed it.code_of.resolved it.direct k (grown_kind counts) false).0
 
   stands : StandsBehind s o.steps before
