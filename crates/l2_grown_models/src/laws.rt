@@ -1,4 +1,5 @@
-//! What holds of the clauses of grown equations: a function without effect whose contract is the law.
+//! What holds of the clauses of grown equations: functions without effect whose contracts are the laws.
+ghost use Rattle.l2_grown_models.specs.Filling.{GrownFills};
 ghost use Rattle.l2_grown_models.specs.Law.{GatesAsk, QuestionsAreModels};
 
 use l2_blast_laws::laws::{
@@ -28,3 +29,8 @@ pub fn questions_are_models()
     said_rows();
     some_event_is();
 }
+
+/// What fills the rows of grown equations is made where what fills those of a point is, and gives what the point says where this does.
+pub fn grown_fills()
+    ensures { GrownFills }
+{}
