@@ -1,0 +1,6 @@
+pub mod Least
+pub mod Refusing
+pub mod Made
+pub mod Sole
+pub mod Fitted
+pub mod Verdict
