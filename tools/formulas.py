@@ -10,7 +10,7 @@ import sys
 
 
 class Formula:
-    """Clauses, over variables that gates take in turn."""
+    """Clauses over variables; each gate takes the next ones."""
 
     def __init__(self):
         self.variables = 0
