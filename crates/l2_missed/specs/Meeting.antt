@@ -6,9 +6,13 @@ use Rattle.l2_cnf.specs.Logic.{Satisfies}
 abbrev pub HasModel : List (List ℤ) → Type 0
 HasModel clauses = (v : ℕ → Bool) × Satisfies v clauses
 
+-- the shared clauses and the clause of this index
+abbrev pub with_clause : List (List ℤ) → List (List ℤ) → ℕ → List (List ℤ)
+with_clause shared clauses i = shared ++ slice_index_or clauses i [] ∷ []
+
 -- some model of the shared clauses makes the clause of this index true
 abbrev pub IsMet : List (List ℤ) → List (List ℤ) → ℕ → Type 0
-IsMet shared clauses i = HasModel (shared ++ slice_index_or clauses i [] ∷ [])
+IsMet shared clauses i = HasModel (with_clause shared clauses i)
 
 -- none from one index up to another is met
 abbrev pub NoneMet : List (List ℤ) → List (List ℤ) → ℕ → ℕ → Type 0

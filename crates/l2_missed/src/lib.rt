@@ -3,4 +3,4 @@
 
 mod shared;
 
-pub use shared::Shared;
+pub use shared::{Met, Shared};

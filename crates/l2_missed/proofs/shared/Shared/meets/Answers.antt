@@ -1,17 +1,5 @@
-use Rattle.std.proofs.Common.{List, ◌++◌, ◌∷◌, [], refl, sym, subst}
-use Rattle.std.specs.Prelude.{ℤ}
-use Rattle.l2_missed.specs.Meeting.{HasModel}
-use Rattle.l2_missed.proofs.Asking.{sat_case, unsat_case}
+use Rattle.l2_missed.proofs.Asking.{tells}
 use Rattle.l2_missed.proofs.shared.Shared.meets.Goals as goal
 
-pub returns-in-Sat-clause-is : goal.returns-in-Sat-clause-is
-returns-in-Sat-clause-is c = (
-  λ u. subst (λ (x : List (List ℤ)). HasModel (x ++ (c.args.literal ∷ []) ∷ [])) c.self.view_is (sat_case _ c.in_ok-ask.field-0 _ c.args.literal _ _ c.in_ok-ask.ensures.answer c.in-Sat.is),
-  λ h. refl,
-)
-
 pub returns-clause-is : goal.returns-clause-is
-returns-clause-is c = (
-  λ u. cc,
-  λ h. absurd (unsat_case _ c.in_ok-ask.field-0 _ c.args.literal _ _ c.in_ok-ask.ensures.answer c.in-Unsat.is (subst (λ (x : List (List ℤ)). HasModel (x ++ (c.args.literal ∷ []) ∷ [])) (sym c.self.view_is) h)),
-)
+returns-clause-is c = tells _ c.in_ok-values.values c.is_some.result c.is_some.ensures c.in_ok-values.ensures.is
