@@ -21,19 +21,20 @@ use Rattle.l2_circuit_laws.proofs.Constants.{constants_show}
 use Rattle.l2_circuit_laws.proofs.Signed.{values_length}
 use Rattle.l2_blast.specs.Sorts.{Sort, Truth, Part, Cell, Sorts, sort_of, sorts_of, IsTruth, IsTyped, AreTyped}
 use Rattle.l2_blast.specs.Words.{Named, Env, name, first, literal, Setting, bit_word, fresh_word, blank, word_of}
-use Rattle.l2_blast.specs.Blasting.{named, blast, clauses_of}
+use Rattle.l2_blast.specs.Blasting.{named, blast}
 use Rattle.l2_blast_laws.specs.Law.{shown, solution, IsMade, IsChosen, AreChosen, IsMet, AreMet, ChoicesHaveModels}
+use Rattle.l2_blast_laws.specs.Behind.{behind, ChoicesHaveModelsBehind}
 use Rattle.l2_blast_laws.proofs.Circuits.{Circuits}
 use Rattle.l2_blast_laws.proofs.Envs.{length_push, each_push, IsThere, EnvBelow, env_up}
 use Rattle.l2_blast_laws.proofs.Making.{step_makes, fresh_word_makes}
 use Rattle.l2_blast_laws.proofs.Operands.{value_shown}
 use Rattle.l2_blast_laws.proofs.Stepping.{fresh_length}
 use Rattle.l2_blast_laws.proofs.Folds.{names_stay, own_name, start_sound}
-use Rattle.l2_blast_laws.proofs.Solving.{Agree as SortsAgree, own_sorts, all_named, stands_at, all_hold, literals_show}
+use Rattle.l2_blast_laws.proofs.Solving.{Agree as SortsAgree, own_sorts, all_sorted, total, literals_show_behind}
 
 -- ---- new variables take any values
 
-lit_same : (n : ℕ) (v u : ℕ → Bool) → Agree n v u → (l : Lit) → Below n l → value u l ≡ value v l
+pub lit_same : (n : ℕ) (v u : ℕ → Bool) → Agree n v u → (l : Lit) → Below n l → value u l ≡ value v l
 lit_same n v u a (Pos i) h = a i h
 lit_same n v u a (Neg i) h = ap not (a i h)
 
@@ -45,24 +46,24 @@ all_same : (n : ℕ) (v u : ℕ → Bool) → Agree n v u → (cs : List (List L
 all_same n v u a [] h = refl
 all_same n v u a (x ∷ cs) h = (λ i. both (some_same n v u a x h.0 i) (all_same n v u a cs h.1 i))
 
-abbrev with_variable : (ℕ → Bool) → ℕ → Bool → ℕ → Bool
+abbrev pub with_variable : (ℕ → Bool) → ℕ → Bool → ℕ → Bool
 with_variable v n b i = if nat_eq i n then b else v i
 
-own_variable : (v : ℕ → Bool) (n : ℕ) (b : Bool) → with_variable v n b n ≡ b
+pub own_variable : (v : ℕ → Bool) (n : ℕ) (b : Bool) → with_variable v n b n ≡ b
 own_variable v n b = go (nat_eq n n) (grind arith)
   where
     go : (t : Bool) → t ≡ true → (if t then b else v n) ≡ b
     go true e = refl
     go false e = absurd (cc)
 
-others_stay : (v : ℕ → Bool) (n : ℕ) (b : Bool) → Agree n v (with_variable v n b)
+pub others_stay : (v : ℕ → Bool) (n : ℕ) (b : Bool) → Agree n v (with_variable v n b)
 others_stay v n b i l = go (nat_eq i n) (grind arith)
   where
     go : (t : Bool) → t ≡ false → (if t then b else v i) ≡ v i
     go true e = absurd (cc)
     go false e = refl
 
-still_ok : (m : Made) → Sound m → (v : ℕ → Bool) (b : Bool) → Ok v m → Ok (with_variable v m.next b) (fresh m).made
+pub still_ok : (m : Made) → Sound m → (v : ℕ → Bool) (b : Bool) → Ok v m → Ok (with_variable v m.next b) (fresh m).made
 still_ok m so v b ok = all_same m.next v (with_variable v m.next b) (others_stay v m.next b) m.clauses so.clauses ∙ ok
 
 -- an assignment that goes on, in which a word has these bits, and keeps them
@@ -101,17 +102,17 @@ bits_number n z = (constants_show (λ i. true) refl n z).number
 -- ---- the choice of one step
 
 -- where the path's literal is true, the word shows the choice
-abbrev Picked : (ℕ → Bool) → CellValue → Env → Step → List Lit → Type 0
+abbrev pub Picked : (ℕ → Bool) → CellValue → Env → Step → List Lit → Type 0
 Picked v x env (Choose g) bits = value v (literal env g) ≡ true → shown v (Truth 1) bits ≡ x
 Picked v x env (Take g ty) bits = value v (literal env g) ≡ true → shown v (Cell (Integer ty)) bits ≡ x
 Picked v x env (Half g) bits = value v (literal env g) ≡ true → shown v Part bits ≡ x
 Picked v x env y bits = Unit {0}
 
-record Goes (v : ℕ → Bool) (x : CellValue) (env : Env) (y : Step) (m : Made) (w : Word) : Type 0 where
-  v' : ℕ → Bool
-  agree : Agree m.next v v'
-  ok : Ok v' w.made
-  picked : (u : ℕ → Bool) → u 0 ≡ true → Agree w.made.next v' u → Picked u x env y w.bits
+pub record Goes (v : ℕ → Bool) (x : CellValue) (env : Env) (y : Step) (m : Made) (w : Word) : Type 0 where
+  pub v' : ℕ → Bool
+  pub agree : Agree m.next v v'
+  pub ok : Ok v' w.made
+  pub picked : (u : ℕ → Bool) → u 0 ≡ true → Agree w.made.next v' u → Picked u x env y w.bits
 
 module _ (c : Circuits) (s : Setting) (fill : IsMade s.fill) (m : Made) (so : Sound m) (env : Env) (h : EnvBelow m.next env) (v : ℕ → Bool) (ok : Ok v m) where
   plain : (x : CellValue) (y : Step) → ((u : ℕ → Bool) → Picked u x env y (word_of s y env m).bits) → Goes v x env y m (word_of s y env m)
@@ -155,7 +156,7 @@ module _ (c : Circuits) (s : Setting) (fill : IsMade s.fill) (m : Made) (so : So
   part_shown : (u : ℕ → Bool) (k : ℕ) (x : CellValue) → x ≡ Number (pos k) → k < 131072 → values u (fresh_word 17 m).bits ≡ bits_of 17 (pos k) → shown u Part (fresh_word 17 m).bits ≡ x
   part_shown u k x e l h = ap (λ n. Number (pos n)) (ap number h ∙ bits_number 17 (pos k) ∙ mod-eq_of_lt l) ∙ sym e
 
-  step_goes : (choices : Names) (n : ℕ) (y : Step) → IsChosen choices n y → Goes v (choices n) env y m (word_of s y env m)
+  pub step_goes : (choices : Names) (n : ℕ) (y : Step) → IsChosen choices n y → Goes v (choices n) env y m (word_of s y env m)
   step_goes choices n (Choose g) k =
       by_test (Goes v (choices n) env (Choose g) m) (same (literal env g) F) (known_word (blank (Truth 1)) m) (bit_word (fresh m))
       (λ e. passed (choices n) (Choose g) g (Truth 1) (λ u bits f. f) e)
@@ -185,23 +186,12 @@ module _ (c : Circuits) (s : Setting) (fill : IsMade s.fill) (m : Made) (so : So
 
 -- ---- all steps
 
--- the choices are shown where the literals of their paths are true
-abbrev AllPicked : (ℕ → Bool) → Names → Env → ℕ → List Step → Type 0
-AllPicked v choices env n [] = Unit {0}
-AllPicked v choices env n (x ∷ xs) = Picked v (choices n) env x (name env n).bits × AllPicked v choices env (suc n) xs
-
-record Whole (v : ℕ → Bool) (choices : Names) (s : Setting) (n : ℕ) (xs : List Step) (env : Env) (m : Made) : Type 0 where
-  v' : ℕ → Bool
-  agree : Agree m.next v v'
-  ok : Ok v' (blast s xs env m).made
-  picked : v' 0 ≡ true → AllPicked v' choices (blast s xs env m).env n xs
-
 -- a path's literal stays
-literal_stays : (s : Setting) (xs : List Step) (env : Env) (m : Made) (a : Operand) → IsBefore (length env) a → literal (blast s xs env m).env a ≡ literal env a
+pub literal_stays : (s : Setting) (xs : List Step) (env : Env) (m : Made) (a : Operand) → IsBefore (length env) a → literal (blast s xs env m).env a ≡ literal env a
 literal_stays s xs env m (Constant x) b = refl
 literal_stays s xs env m (Temp i) b = ap (λ (w : Named). first w.bits) (names_stay s xs env m i b)
 
-picked_stays : (v : ℕ → Bool) (x : CellValue) (s : Setting) (xs : List Step) (env env' : Env) (m : Made) (y : Step) (bits : List Lit) → env' ≡ (blast s xs env m).env → Reads (length env) y
+pub picked_stays : (v : ℕ → Bool) (x : CellValue) (s : Setting) (xs : List Step) (env env' : Env) (m : Made) (y : Step) (bits : List Lit) → env' ≡ (blast s xs env m).env → Reads (length env) y
     → Picked v x env y bits → Picked v x env' y bits
 picked_stays v x s xs env env' m (Choose g) bits e r f = λ p. f (ap (value v) (sym (ap (λ z. literal z g) e ∙ literal_stays s xs env m g r)) ∙ p)
 picked_stays v x s xs env env' m (Take g ty) bits e r f = λ p. f (ap (value v) (sym (ap (λ z. literal z g) e ∙ literal_stays s xs env m g r)) ∙ p)
@@ -219,27 +209,51 @@ picked_stays v x s xs env env' m (But a b) bits e r f = tt
 picked_stays v x s xs env env' m (Either a b) bits e r f = tt
 picked_stays v x s xs env env' m (Merge g i ty p q) bits e r f = tt
 
-module _ (c : Circuits) (s : Setting) (fill : IsMade s.fill) (choices : Names) where
-  all_go : (xs : List Step) (env : Env) (m : Made) (n : ℕ) (v : ℕ → Bool) → length env ≡ n → InOrder n xs → AreChosen choices n xs → Sound m → EnvBelow m.next env → Ok v m → Whole v choices s n xs env m
-  all_go [] env m n v e r k so h ok = record { v' = v; agree = λ i l. refl; ok = ok; picked = λ t. tt }
-  all_go (x ∷ xs) env m n v e r k so h ok =
-      let w = word_of s x env m in
-      let q = step_goes c s fill m so env h v ok choices n x k.0 in
-      let z = step_makes c s fill m so env h x in
-      let env' = env ++ named x w ∷ [] in
-      let below = each_push (IsThere w.made.next) env (named x w) (env_up m.next w.made.next env z.extends.grows h) z.bits in
-      let y = all_go xs env' w.made (suc n) q.v' (length_push env (named x w) ∙ ap suc e) r.1 k.1 z.extends.sound below q.ok in
-      record {
-        v' = y.v';
-        agree = λ i l. y.agree i (let g = z.extends.grows in omega (arith, g, l)) ∙ q.agree i l;
-        ok = y.ok;
-        picked = λ t. (
-          picked_stays y.v' (choices n) s (x ∷ xs) env (blast s xs env' w.made).env m x (name (blast s xs env' w.made).env n).bits refl (subst (λ j. Reads j x) (sym e) r.0)
-              (subst (λ b. Picked y.v' (choices n) env x b)
-              (sym (ap (λ j. (name (blast s (x ∷ xs) env m).env j).bits) (sym e) ∙ ap (λ (u : Named). u.bits) (own_name s x xs env m))) (q.picked y.v' t y.agree)),
-          y.picked t,
-        );
-      }
+-- what is to be shown of each step, in an assignment: by the names, the step's number and its word
+module _ (P : (ℕ → Bool) → Env → ℕ → Step → List Lit → Type 0) where
+  abbrev pub AllPicked : (ℕ → Bool) → Env → ℕ → List Step → Type 0
+  AllPicked v env n [] = Unit {0}
+  AllPicked v env n (x ∷ xs) = P v env n x (name env n).bits × AllPicked v env (suc n) xs
+
+  pub record One (v : ℕ → Bool) (env : Env) (n : ℕ) (y : Step) (m : Made) (w : Word) : Type 0 where
+    pub v' : ℕ → Bool
+    pub agree : Agree m.next v v'
+    pub ok : Ok v' w.made
+    pub picked : (u : ℕ → Bool) → u 0 ≡ true → Agree w.made.next v' u → P u env n y w.bits
+
+  pub record Whole (v : ℕ → Bool) (s : Setting) (n : ℕ) (xs : List Step) (env : Env) (m : Made) : Type 0 where
+    pub v' : ℕ → Bool
+    pub agree : Agree m.next v v'
+    pub ok : Ok v' (blast s xs env m).made
+    pub picked : v' 0 ≡ true → AllPicked v' (blast s xs env m).env n xs
+
+  module _ (c : Circuits) (s : Setting) (fill : IsMade s.fill) (choices : Names)
+      (stays : (u : ℕ → Bool) (n : ℕ) (xs : List Step) (env env' : Env) (m : Made) (y : Step) (bits : List Lit) → env' ≡ (blast s xs env m).env → length env ≡ n → Reads n y → P u env n y bits → P u env' n y bits)
+      (one : (m : Made) → Sound m → (env : Env) → EnvBelow m.next env → (v : ℕ → Bool) → Ok v m → (n : ℕ) (y : Step) → length env ≡ n → Reads n y → IsChosen choices n y → One v env n y m (word_of s y env m)) where
+    pub all_go : (xs : List Step) (env : Env) (m : Made) (n : ℕ) (v : ℕ → Bool) → length env ≡ n → InOrder n xs → AreChosen choices n xs → Sound m → EnvBelow m.next env → Ok v m → Whole v s n xs env m
+    all_go [] env m n v e r k so h ok = record { v' = v; agree = λ i l. refl; ok = ok; picked = λ t. tt }
+    all_go (x ∷ xs) env m n v e r k so h ok =
+        let w = word_of s x env m in
+        let q = one m so env h v ok n x e r.0 k.0 in
+        let z = step_makes c s fill m so env h x in
+        let env' = env ++ named x w ∷ [] in
+        let below = each_push (IsThere w.made.next) env (named x w) (env_up m.next w.made.next env z.extends.grows h) z.bits in
+        let y = all_go xs env' w.made (suc n) q.v' (length_push env (named x w) ∙ ap suc e) r.1 k.1 z.extends.sound below q.ok in
+        record {
+          v' = y.v';
+          agree = λ i l. y.agree i (let g = z.extends.grows in omega (arith, g, l)) ∙ q.agree i l;
+          ok = y.ok;
+          picked = λ t. (
+            stays y.v' n (x ∷ xs) env (blast s xs env' w.made).env m x (name (blast s xs env' w.made).env n).bits refl e r.0
+                (subst (λ b. P y.v' env n x b)
+                (sym (ap (λ j. (name (blast s (x ∷ xs) env m).env j).bits) (sym e) ∙ ap (λ (u : Named). u.bits) (own_name s x xs env m))) (q.picked y.v' t y.agree)),
+            y.picked t,
+          );
+        }
+
+-- the choices are shown where the literals of their paths are true
+abbrev pub Shown : Names → (ℕ → Bool) → Env → ℕ → Step → List Lit → Type 0
+Shown choices u env n y bits = Picked u (choices n) env y bits
 
 -- from literals to values
 module _ (v : ℕ → Bool) (choices : Names) (s : Setting) (kinds : Sorts) (env : Env) (total : ℕ)
@@ -252,7 +266,7 @@ module _ (v : ℕ → Bool) (choices : Names) (s : Setting) (kinds : Sorts) (env
   shown_sort : (n : ℕ) (sort : Sort) → (name env n).sort ≡ sort → solution env v n ≡ shown v sort (name env n).bits
   shown_sort n sort e = ap (λ k. shown v k (name env n).bits) e
 
-  one_met : (n : ℕ) (x : Step) → Reads n x → IsTyped s.types kinds x → n < total → kinds n ≡ sort_of x → Picked v (choices n) env x (name env n).bits → IsMet choices (solution env v) n x
+  pub one_met : (n : ℕ) (x : Step) → Reads n x → IsTyped s.types kinds x → n < total → kinds n ≡ sort_of x → Picked v (choices n) env x (name env n).bits → IsMet choices (solution env v) n x
   one_met n (Choose g) r h l e f = λ o. shown_sort n (Truth 1) (sorted n (Truth 1) e l) ∙ f (sym (lit g (before_all n g (omega (arith, l)) r) h) ∙ o)
   one_met n (Take g ty) r h l e f = λ o. shown_sort n (Cell (Integer ty)) (sorted n (Cell (Integer ty)) e l) ∙ f (sym (lit g (before_all n g (omega (arith, l)) r) h) ∙ o)
   one_met n (Half g) r h l e f = λ o. shown_sort n Part (sorted n Part e l) ∙ f (sym (lit g (before_all n g (omega (arith, l)) r) h) ∙ o)
@@ -269,23 +283,30 @@ module _ (v : ℕ → Bool) (choices : Names) (s : Setting) (kinds : Sorts) (env
   one_met n (Either a b) r h l e f = tt
   one_met n (Merge g i ty p q) r h l e f = tt
 
-  all_met : (xs : List Step) (n : ℕ) → InOrder n xs → AreTyped s.types kinds xs → n + length xs ≡ total → SortsAgree kinds n xs → AllPicked v choices env n xs → AreMet choices (solution env v) n xs
+  pub all_met : (xs : List Step) (n : ℕ) → InOrder n xs → AreTyped s.types kinds xs → n + length xs ≡ total → SortsAgree kinds n xs → AllPicked (Shown choices) v env n xs → AreMet choices (solution env v) n xs
   all_met [] n r h e a p = tt
   all_met (x ∷ xs) n r h e a p = (one_met n x r.0 h.0 (omega (arith, e)) a.0 p.0, all_met xs (suc n) r.1 h.1 (omega (arith, e)) a.1 p.1)
 
-pub choices_have_models : Circuits → ChoicesHaveModels
-choices_have_models c = λ s sized fill xs r ty choices k.
-    let so = start_sound c s fill in
-    let y = all_go c s fill choices xs [] start 0 (λ i. true) refl r k so tt refl in
-    let t = y.agree 0 (omega arith) in
-    let env = (clauses_of s xs).env in
-    let h = all_hold c s sized fill y.v' t (sorts_of xs) (solution env y.v') (λ l i vs. true) (λ l a b. true) xs [] start 0 refl r ty (own_sorts xs) so tt tt y.ok (λ i. refl) in
-    let total : length env ≡ length xs = all_named s xs [] start ∙ omega arith in (
-      y.v',
-      t,
-      y.ok,
-      all_met y.v' choices s (sorts_of xs) env (length xs)
-          (λ n sort e l. (stands_at y.v' (sorts_of xs) 0 n n env (omega arith) (omega (arith, l, total)) h.stands).sort ∙ e)
-          (λ a b i. literals_show c s sized fill xs r ty y.v' t y.ok a b i)
-          xs 0 r ty (omega arith) (own_sorts xs) (y.picked t),
-    )
+module _ (c : Circuits) where
+  pub choices_have_models_behind : ChoicesHaveModelsBehind
+  choices_have_models_behind = λ s sized fill m so xs r ty u t ok choices k.
+      let y = all_go (Shown choices) c s fill choices
+      (λ u n xs env env' m y bits e l r f. picked_stays u (choices n) s xs env env' m y bits e (subst (λ j. Reads j y) (sym l) r) f)
+      (λ m so env h v ok n y l r k. let q = step_goes c s fill m so env h v ok choices n y k in record { v' = q.v'; agree = q.agree; ok = q.ok; picked = q.picked })
+      xs [] m 0 u refl r k so tt ok in
+      let t' = y.agree 0 (let z = so.some in omega (arith, z)) ∙ t in
+      let env = (behind s xs m).env in (
+        y.v',
+        y.agree,
+        y.ok,
+        all_met y.v' choices s (sorts_of xs) env (length xs)
+            (λ n sort e l. all_sorted c s sized fill m so xs r ty y.v' t' y.ok n (let z = total c s sized fill m so xs r ty y.v' t' y.ok in omega (arith, l, z)) ∙ e)
+            (λ a b i. literals_show_behind c s sized fill m so xs r ty y.v' t' y.ok a b i)
+            xs 0 r ty (omega arith) (own_sorts xs) (y.picked t'),
+      )
+
+  pub choices_have_models : ChoicesHaveModels
+  choices_have_models = λ s sized fill xs r ty choices k.
+      let so = start_sound c s fill in
+      let (v, agree, ok, met) = choices_have_models_behind s sized fill start so xs r ty (λ i. true) refl refl choices k in
+      (v, agree 0 (omega arith), ok, met)

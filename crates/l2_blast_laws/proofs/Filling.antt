@@ -26,30 +26,33 @@ is_number z h =
 
 module _ (c : Circuits) (s : Setting) (sized : IsSized s) (v : ℕ → Bool) (true_one : v 0 ≡ true) (kinds : Sorts) (env : Env) (t : Names)
     (sorted : (i : ℕ) → i < length env → (name env i).sort ≡ kinds i)
-    (at : (i : ℕ) → i < length env → ShownBy v (kinds i) (name env i).bits (t i)) (m : Made)
-    (row : ℕ → ℕ → List CellValue → Bool) (lower : ℕ → List CellValue → List CellValue → Bool) (means : FillMeans v s.fill (meaning_of s row lower)) where
+    (at : (i : ℕ) → i < length env → ShownBy v (kinds i) (name env i).bits (t i)) where
   -- the numbers of operands, which their wide words show
-  record AllShown (vars : List Operand) : Type 0 where
-    numbers : List ℤ
-    are : values_of t vars ≡ map Number numbers
-    shows : WordsShow v (wide_words env vars) numbers
+  pub record AllShown (vars : List Operand) : Type 0 where
+    pub numbers : List ℤ
+    pub are : values_of t vars ≡ map Number numbers
+    pub shows : WordsShow v (wide_words env vars) numbers
 
-  all_shown : (vars : List Operand) → AreBefore (length env) vars → AreNumbers kinds vars → AllShown vars
+  pub all_shown : (vars : List Operand) → AreBefore (length env) vars → AreNumbers kinds vars → AllShown vars
   all_shown [] b h = record { numbers = []; are = refl; shows = tt }
   all_shown (a ∷ rest) b h =
       let w = wide_is c v true_one s.types.objects sized.small kinds env t sorted at 66 a b.0 h.0 in
       let r = all_shown rest b.1 h.1 in
       record { numbers = w.number ∷ r.numbers; are = (λ i. w.is i ∷ r.are i); shows = (w.shows, is_number w.number w.whole, r.shows) }
 
+module _ (c : Circuits) (s : Setting) (sized : IsSized s) (v : ℕ → Bool) (true_one : v 0 ≡ true) (kinds : Sorts) (env : Env) (t : Names)
+    (sorted : (i : ℕ) → i < length env → (name env i).sort ≡ kinds i)
+    (at : (i : ℕ) → i < length env → ShownBy v (kinds i) (name env i).bits (t i)) (m : Made)
+    (row : ℕ → ℕ → List CellValue → Bool) (lower : ℕ → List CellValue → List CellValue → Bool) (means : FillMeans v s.fill (meaning_of s row lower)) where
   pub row_fine : (n : ℕ) (x : Step) → Reads (length env) x → IsTyped s.types kinds x → Ok v (word_of s x env m).made → t n ≡ shown v (sort_of x) (word_of s x env m).bits → RowHolds (meaning_of s row lower) t n x
   row_fine n (Row g l i vars) r h ok is =
-      let k = all_shown vars r.1 h.1 in
+      let k = all_shown c s sized v true_one kinds env t sorted at vars r.1 h.1 in
       (guarded c s sized v true_one kinds env t sorted at m row lower g r.0 h.0 (Truth 1) (omega arith) (made_word s (Row g l i vars) env m) (t n) (t n ≡ bit (row l i (values_of t vars)))
       (λ o e. let q = asked c s sized v true_one kinds env t sorted at m row lower n _ (row l i (map Number k.numbers)) (means.row l i (wide_words env vars) k.numbers m k.shows) o e in
       (q.0, q.1 ∙ ap (λ z. bit (row l i z)) (sym k.are))) ok is).1
   row_fine n (Lower g l old new) r h ok is =
-      let j = all_shown old r.1 h.1 in
-      let k = all_shown new r.2 h.2 in
+      let j = all_shown c s sized v true_one kinds env t sorted at old r.1 h.1 in
+      let k = all_shown c s sized v true_one kinds env t sorted at new r.2 h.2 in
       (guarded c s sized v true_one kinds env t sorted at m row lower g r.0 h.0 (Truth 1) (omega arith) (made_word s (Lower g l old new) env m) (t n) (t n ≡ bit (lower l (values_of t old) (values_of t new)))
       (λ o e. let q = asked c s sized v true_one kinds env t sorted at m row lower n _ (lower l (map Number j.numbers) (map Number k.numbers)) (means.lower l (wide_words env old) (wide_words env new) j.numbers k.numbers m j.shows k.shows) o e in
       (q.0, q.1 ∙ (λ i. bit (lower l (sym j.are i) (sym k.are i))))) ok is).1

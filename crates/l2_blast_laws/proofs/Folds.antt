@@ -7,6 +7,7 @@ use Rattle.l2_gates.proofs.Made.{ext_refl, ext_then}
 use Rattle.l2_blast.specs.Words.{Env, name, Setting, word_of}
 use Rattle.l2_blast.specs.Blasting.{Blasted, named, blast, clauses_of}
 use Rattle.l2_blast_laws.specs.Law.{IsMade, StepsAreMade}
+use Rattle.l2_blast_laws.specs.Behind.{behind, StandsBehind}
 use Rattle.l2_blast_laws.proofs.Circuits.{Circuits}
 use Rattle.l2_blast_laws.proofs.Envs.{length_push, name_push, name_last, each_push, IsThere, EnvBelow, env_up, name_below}
 use Rattle.l2_blast_laws.proofs.Making.{step_makes}
@@ -39,6 +40,11 @@ module _ (c : Circuits) (s : Setting) (fill : IsMade s.fill) where
       let r = all_made xs (env ++ named x w ∷ []) w.made k.extends.sound
       (each_push (IsThere w.made.next) env (named x w) (env_up m.next w.made.next env k.extends.grows h) k.bits) in
       record { below = r.below; extends = ext_then m w.made (blast s xs (env ++ named x w ∷ []) w.made).made k.extends r.extends }
+
+  pub steps_made_behind : (m : Made) → Sound m → (xs : List Step) → StandsBehind s xs m
+  steps_made_behind m so xs =
+      let f = all_made xs [] m so tt in
+      record { extends = f.extends; words = λ n. name_below (behind s xs m).made.next (behind s xs m).env n f.below }
 
   pub start_sound : Sound start
   start_sound = record { some = omega arith; clauses = ((omega arith, tt), tt) }

@@ -10,3 +10,4 @@ pub mod Stepping
 pub mod Filling
 pub mod Solving
 pub mod Choosing
+pub mod Opening

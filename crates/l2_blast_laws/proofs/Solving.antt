@@ -1,21 +1,24 @@
 -- In each model of the clauses the words show a solution.
-use Rattle.std.proofs.Common.{◌≡◌, ℕ, zero, suc, ◌+◌, ◌<◌, Bool, true, refl, sym, ap, ◌∙◌, subst, List, [], ◌∷◌, ◌++◌, length, map, arith}
+use Rattle.std.proofs.Common.{◌≡◌, ℕ, zero, suc, ◌+◌, ◌<◌, Bool, true, ℤ, refl, sym, ap, ◌∙◌, subst, List, [], ◌∷◌, ◌++◌, length, map, arith}
 use Rattle.std.specs.Prelude.{slice_index_or}
 use Rattle.l2_runs.specs.declared.cells.CellValue.{CellValue}
-use Rattle.l2_ssa.specs.Steps.{Step, Names, Solves, IsBefore, Reads, InOrder}
+use Rattle.l2_runs.specs.declared.cells.CellValue.TheVariants.{Number}
+use Rattle.l2_code.specs.declared.action.Operand.{Operand}
+use Rattle.l2_ssa.specs.Steps.{Step, Names, on, values_of, Solves, IsBefore, AreBefore, Reads, InOrder}
 use Rattle.l2_gates.specs.Gates.{Made, start}
-use Rattle.l2_gates.specs.Models.{Ok, Sound}
-use Rattle.l2_blast.specs.Sorts.{Truth, Sorts, sort_of, sorts_of, AreTyped}
-use Rattle.l2_blast.specs.Words.{Named, Env, name, Setting, word_of}
-use Rattle.l2_blast.specs.Blasting.{Blasted, named, blast, clauses_of}
-use Rattle.l2_blast_laws.specs.Law.{shown, solution, IsSized, IsMade, RowsHold, meaning_of, FillMeans, FillsHold, ModelsSolve, LiteralsShow}
+use Rattle.l2_gates.specs.Models.{value, Ok, Sound}
+use Rattle.l2_blast.specs.Sorts.{Truth, Sorts, sort_of, sorts_of, IsTruth, AreNumbers, AreTyped}
+use Rattle.l2_blast.specs.Words.{Named, Env, name, literal, wide_words, Setting, word_of}
+use Rattle.l2_blast.specs.Blasting.{Blasted, named, blast}
+use Rattle.l2_blast_laws.specs.Law.{shown, solution, IsSized, IsMade, RowsHold, meaning_of, WordsShow, FillMeans, FillsHold, ModelsSolve, LiteralsShow}
+use Rattle.l2_blast_laws.specs.Behind.{behind, ModelsSolveBehind, FillsHoldBehind, LiteralsShowBehind, NumbersShowBehind}
 use Rattle.l2_blast_laws.proofs.Circuits.{Circuits}
 use Rattle.l2_blast_laws.proofs.Envs.{length_push, each_push, IsThere, EnvBelow, env_up}
 use Rattle.l2_blast_laws.proofs.Making.{step_makes}
 use Rattle.l2_blast_laws.proofs.Operands.{Proper, ShownBy, literal_is}
 use Rattle.l2_blast_laws.proofs.Folds.{names_stay, own_name, all_made, start_sound}
 use Rattle.l2_blast_laws.proofs.Stepping.{step_fine}
-use Rattle.l2_blast_laws.proofs.Filling.{row_fine}
+use Rattle.l2_blast_laws.proofs.Filling.{all_shown, row_fine}
 
 -- each step gives a name
 pub all_named : (s : Setting) (xs : List Step) (env : Env) (m : Made) → length (blast s xs env m).env ≡ length env + length xs
@@ -99,18 +102,56 @@ module _ (c : Circuits) (s : Setting) (sized : IsSized s) (fill : IsMade s.fill)
       }
 
 module _ (c : Circuits) where
+  module _ (s : Setting) (sized : IsSized s) (fill : IsMade s.fill) (m : Made) (so : Sound m) (xs : List Step) (r : InOrder 0 xs) (ty : AreTyped s.types (sorts_of xs) xs)
+      (v : ℕ → Bool) (t : v 0 ≡ true) (ok : Ok v (behind s xs m).made) where
+    abbrev env : Env
+    env = (behind s xs m).env
+
+    abbrev values : Names
+    values = solution env v
+
+    comes : (row : ℕ → ℕ → List CellValue → Bool) (lower : ℕ → List CellValue → List CellValue → Bool) → Comes c s sized fill v t (sorts_of xs) values row lower 0 xs (behind s xs m)
+    comes row lower = all_hold c s sized fill v t (sorts_of xs) values row lower xs [] m 0 refl r ty (own_sorts xs) so tt tt ok (λ i. refl)
+
+    stands : Stands v (sorts_of xs) 0 env
+    stands = (comes (λ l i vs. true) (λ l x y. true)).stands
+
+    pub all_sorted : (i : ℕ) → i < length env → (name env i).sort ≡ sorts_of xs i
+    all_sorted i l = (stands_at v (sorts_of xs) 0 i i env (omega arith) l stands).sort
+
+    all_at : (i : ℕ) → i < length env → ShownBy v (sorts_of xs i) (name env i).bits (values i)
+    all_at = shown_at c s sized fill v t (sorts_of xs) values (λ l i vs. true) (λ l x y. true) env stands (λ i l. refl)
+
+    pub total : length xs ≡ length env
+    total = sym (all_named s xs [] m ∙ omega arith)
+
+    pub literal_shows : (a : Operand) → IsBefore (length xs) a → IsTruth (sorts_of xs) a → on values a ≡ value v (literal env a)
+    literal_shows a b h = literal_is c v t s.types.objects sized.small (sorts_of xs) env values all_sorted all_at a (subst (λ n. IsBefore n a) total b) h
+
+    numbers_shown : (vars : List Operand) → AreBefore (length xs) vars → AreNumbers (sorts_of xs) vars → (numbers : List ℤ) × (values_of values vars ≡ map Number numbers) × WordsShow v (wide_words env vars) numbers
+    numbers_shown vars b h =
+        let k = all_shown c s sized v t (sorts_of xs) env values all_sorted all_at vars (subst (λ n. AreBefore n vars) total b) h in
+        (k.numbers, k.are, k.shows)
+
+  pub models_solve_behind : ModelsSolveBehind
+  models_solve_behind = λ s sized fill m so xs r ty v t ok row lower rows. (comes s sized fill m so xs r ty v t ok row lower).solves rows
+
+  pub fills_hold_behind : FillsHoldBehind
+  fills_hold_behind = λ s sized fill m so xs r ty v t ok row lower means. (comes s sized fill m so xs r ty v t ok row lower).rows means
+
+  pub literals_show_behind : LiteralsShowBehind
+  literals_show_behind = λ s sized fill m so xs r ty v t ok a b h. literal_shows s sized fill m so xs r ty v t ok a b h
+
+  pub numbers_show_behind : NumbersShowBehind
+  numbers_show_behind = λ s sized fill m so xs r ty v t ok vars b h. numbers_shown s sized fill m so xs r ty v t ok vars b h
+
+  -- ---- from the start
+
   pub models_solve : ModelsSolve
-  models_solve = λ s sized fill xs r ty v t ok row lower rows.
-      (all_hold c s sized fill v t (sorts_of xs) (solution (clauses_of s xs).env v) row lower xs [] start 0 refl r ty (own_sorts xs) (start_sound c s fill) tt tt ok (λ i. refl)).solves rows
+  models_solve = λ s sized fill xs r ty v t ok row lower rows. models_solve_behind s sized fill start (start_sound c s fill) xs r ty v t ok row lower rows
 
   pub fills_hold : FillsHold
-  fills_hold = λ s sized fill xs r ty v t ok row lower means.
-      (all_hold c s sized fill v t (sorts_of xs) (solution (clauses_of s xs).env v) row lower xs [] start 0 refl r ty (own_sorts xs) (start_sound c s fill) tt tt ok (λ i. refl)).rows means
+  fills_hold = λ s sized fill xs r ty v t ok row lower means. fills_hold_behind s sized fill start (start_sound c s fill) xs r ty v t ok row lower means
 
   pub literals_show : LiteralsShow
-  literals_show = λ s sized fill xs r ty v t ok a b h.
-      let k = all_hold c s sized fill v t (sorts_of xs) (solution (clauses_of s xs).env v) (λ l i vs. true) (λ l x y. true) xs [] start 0 refl r ty (own_sorts xs) (start_sound c s fill) tt tt ok (λ i. refl) in
-      literal_is c v t s.types.objects sized.small (sorts_of xs) (clauses_of s xs).env (solution (clauses_of s xs).env v)
-      (λ i l. (stands_at v (sorts_of xs) 0 i i (clauses_of s xs).env (omega arith) l k.stands).sort)
-      (shown_at c s sized fill v t (sorts_of xs) (solution (clauses_of s xs).env v) (λ l i vs. true) (λ l x y. true) (clauses_of s xs).env k.stands (λ i l. refl))
-      a (subst (λ n. IsBefore n a) (sym (all_named s xs [] start ∙ omega arith)) b) h
+  literals_show = λ s sized fill xs r ty v t ok a b h. literals_show_behind s sized fill start (start_sound c s fill) xs r ty v t ok a b h

@@ -2,3 +2,5 @@ pub mod Least
 pub mod Refusing
 pub mod Made
 pub mod Sole
+pub mod Fitted
+pub mod Verdict

@@ -1,3 +1,4 @@
 pub mod Accepting
 pub mod Made
 pub mod Law
+pub mod Verdict

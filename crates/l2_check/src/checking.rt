@@ -8,9 +8,10 @@ ghost use Rattle.l2_derivations.specs.Goals.{AllHold};
 ghost use Rattle.l2_fitting.specs.Fitting.{NamesFit, IsBadName};
 ghost use Rattle.l2_front.specs.Codes.{BelongTo};
 ghost use Rattle.l2_check.specs.Accepting.{Accepts, IsFailed, IsPassed, IsRefusal, ranks_of};
+ghost use Rattle.l2_check.specs.Verdict.{IsTrue};
 ghost use Rattle.l2_check.specs.Made.{AreMade, IsStepError, problem_with};
 
-use crate::laws::refused_is_not_accepted;
+use crate::laws::{accepted_is_true, refused_is_not_accepted};
 use l2_cert::{Cert, CertKind};
 use l2_code::{Code, Sets};
 use l2_derivations::{Gate, GoalError as DerivationError, NoGate, Problem, check_goals};
@@ -173,10 +174,13 @@ pub fn check_at<R: Threads + Sync, G: Gate + Sync>(
     requires plain { cert.now.overflow ≡ false }
     ensures ok { OnOk result (Accepts (program_tree loaded.now.program) cert.now) }
     ensures accepted { IfOk result (λ a. (a.kind ≡ cert.now.kind) × (a.k ≡ cert.now.k) × (a.overflow ≡ cert.now.overflow)) }
+    ensures verdict { OnOk result (IsTrue (program_tree loaded.now.program) cert.now) }
     ensures refused { IfErr result (λ e. IsRefusal (program_tree loaded.now.program) cert.now e) }
     ensures exactly { IfErr result (λ e. e ≢ CheckError.NoMemory → ¬ Accepts (program_tree loaded.now.program) cert.now) }
 {
+    loaded.whole();
     refused_is_not_accepted();
+    accepted_is_true();
     fit(loaded, cert)?;
     check_loaded(rt, alloc, loaded, cert, jobs, gate)?;
     Ok(Accepted {
@@ -199,6 +203,7 @@ pub fn check<R: Threads + Sync>(
     requires plain { cert.now.overflow ≡ false }
     ensures ok { OnOk result (Accepts (program_tree loaded.now.program) cert.now) }
     ensures accepted { IfOk result (λ a. (a.kind ≡ cert.now.kind) × (a.k ≡ cert.now.k) × (a.overflow ≡ cert.now.overflow)) }
+    ensures verdict { OnOk result (IsTrue (program_tree loaded.now.program) cert.now) }
     ensures refused { IfErr result (λ e. IsRefusal (program_tree loaded.now.program) cert.now e) }
     ensures exactly { IfErr result (λ e. e ≢ CheckError.NoMemory → ¬ Accepts (program_tree loaded.now.program) cert.now) }
 {

@@ -1,12 +1,9 @@
 -- Goals, one by one.
 use Rattle.std.proofs.Common.{◌≡◌, ℕ, zero, suc, ◌+◌, ◌<◌, List, [], ◌∷◌, ◌++◌, map, length, drop, sym, ap, ◌∙◌, arith, append_assoc}
-use Rattle.std.proofs.lemmas.List.{at_drop_more, map-append}
-use Rattle.l2_templates.specs.declared.point.LoopPoint.{LoopPoint}
-use Rattle.l2_templates.specs.declared.point.LoopPoint.TheVariants.{Bottom}
-use Rattle.l2_templates.specs.Points.{loop_at}
+use Rattle.std.proofs.lemmas.List.{map-append}
 use Rattle.l2_gates.specs.Gates.{Lit}
 use Rattle.l2_ssa.specs.Walks.{Goal, RowGoal, CheckGoal}
-use Rattle.l2_ssa_points.specs.Goals.{goals_of_rows, loop_goals, row_goals, loop_rank_goals, rank_goals, check_goals}
+use Rattle.l2_ssa_points.specs.Goals.{goals_of_rows, check_goals}
 
 pub one_row_more : (l j i : ℕ) → goals_of_rows l j (suc i) ≡ goals_of_rows l j i ++ RowGoal l (j + i) ∷ []
 one_row_more l j zero = ap (λ n. RowGoal l n ∷ []) (omega arith)
@@ -30,13 +27,3 @@ pushed f first now next done goal all h k e =
 pub passed : (f : Goal → List Lit) (whole now next : List (List Lit)) (left part rest : List Goal) → whole ≡ now ++ map f left → next ≡ now ++ map f part → left ≡ part ++ rest → whole ≡ next ++ map f rest
 passed f whole now next left part rest h k e =
     h ∙ ap (λ t. now ++ t) (ap (map f) e ∙ map-append f part rest) ∙ sym (append_assoc now (map f part) (map f rest)) ∙ ap (λ t. t ++ map f rest) (sym k)
-
-pub next_rows : (i : ℕ) (point : List LoopPoint) → i < length point → row_goals (suc i) (drop i point) ≡ loop_goals (suc i) (loop_at point i) ++ row_goals (suc (i + 1)) (drop (i + 1) point)
-next_rows i point within =
-    let count : suc i ≡ i + 1 = omega arith in
-    at_drop_more (row_goals (suc i)) point i Bottom within ∙ ap (λ n. loop_goals (suc i) (loop_at point i) ++ row_goals (suc n) (drop (i + 1) point)) count
-
-pub next_ranks : (i : ℕ) (point : List LoopPoint) → i < length point → rank_goals (suc i) (drop i point) ≡ loop_rank_goals (suc i) (loop_at point i) ++ rank_goals (suc (i + 1)) (drop (i + 1) point)
-next_ranks i point within =
-    let count : suc i ≡ i + 1 = omega arith in
-    at_drop_more (rank_goals (suc i)) point i Bottom within ∙ ap (λ n. loop_rank_goals (suc i) (loop_at point i) ++ rank_goals (suc n) (drop (i + 1) point)) count

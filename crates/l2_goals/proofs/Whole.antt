@@ -1,5 +1,5 @@
 -- What is made is the formulas.
-use Rattle.std.proofs.Common.{◌≡◌, ℕ, zero, suc, Bool, if◌then◌else◌, List, [], ◌∷◌, ◌++◌, length, map, is_some, Option, Some, None, option_map, refl, sym, ap, ◌∙◌}
+use Rattle.std.proofs.Common.{◌≡◌, ℕ, zero, suc, Bool, if◌then◌else◌, List, [], ◌∷◌, ◌++◌, length, map, is_some, Option, Some, None, option_map, refl, sym, ap, ◌∙◌, subst}
 use Rattle.l2_templates.specs.declared.form.Form.{Form}
 use Rattle.l2_templates.specs.declared.point.LoopPoint.{LoopPoint}
 use Rattle.l2_templates.specs.declared.point.LoopPoint.TheVariants.{Bottom, Rows}
@@ -11,14 +11,17 @@ use Rattle.l2_ssa.specs.Steps.{Step}
 use Rattle.l2_ssa.specs.declared.goal.Event.{Event as KeptEvent}
 use Rattle.l2_ssa.specs.declared.step.Step.{Step as KeptStep}
 use Rattle.l2_ssa.specs.Views.{kinds_of, kind_of as kept_is, steps_of, events_of}
-use Rattle.l2_ssa.specs.Walks.{Event}
+use Rattle.l2_ssa.specs.Walks.{Event, RowGoal, RankGoal}
 use Rattle.l2_ssa.specs.Law.{ssa}
 use Rattle.l2_gates.specs.Gates.{Made, start, literals_of}
-use Rattle.l2_blast.specs.Words.{Env, Setting}
+use Rattle.l2_blast.specs.Words.{Env, Fill, Setting}
+use Rattle.l2_blast.specs.Kept.{setting_of}
 use Rattle.l2_blast.specs.Blasting.{blast, clauses_of}
-use Rattle.l2_ssa_points.specs.Goals.{kind_at, kind_of, row_goals, rank_goals, check_goals, last_goals, goals}
+use Rattle.l2_ssa_points.specs.Goals.{goals_of_rows, kind_at, kind_of, row_goals, rank_goals, check_goals, goals}
+use Rattle.l2_ssa_points.specs.Places.{vars_of}
 use Rattle.l2_goals.specs.declared.making.Goals.{Goals}
-use Rattle.l2_goals.specs.Formulas.{equations, setting, formulas, literals}
+use Rattle.l2_goals.specs.Fills.{fill_of}
+use Rattle.l2_goals.specs.Formulas.{rows_of_kinds, ranks_of_kinds, goals_of_kinds, walk_formulas_with, formulas_of, equations, setting, walk_formulas, literals}
 use Rattle.l2_goals.specs.Kept.{kept_kind, kept_kinds}
 use Rattle.l2_goals.specs.Numbers.{all_numbers, AreFormulas}
 
@@ -42,42 +45,55 @@ pub some_same : {A B : Type 0} (f : A → B) (x : Option A) → is_some (option_
 some_same f None = refl
 some_same f (Some x) = refl
 
-equations_same : (c : CodeTree) (f : Family) (k : ℕ) (q : List LoopPoint) (ranks : Option (List (List Form))) (kinds : List KeptKind) (b : Bool) → kinds ≡ kept_kinds q → b ≡ is_some ranks → ssa c f k (kinds_of kinds) b ≡ equations c f k q ranks
-equations_same c f k q ranks kinds b h e = ap (λ ks. ssa c f k (kinds_of ks) b) h ∙ ap (λ g. ssa c f k g b) (kinds_same q) ∙ ap (ssa c f k (kind_at q)) e
+goals_in : (l : ℕ) (q : List LoopPoint) → rows_of_kinds l (kept_kinds q) ≡ row_goals l q
+goals_in l [] = refl
+goals_in l (Bottom ∷ q) = ap (λ gs. RowGoal l 0 ∷ gs) (goals_in (suc l) q)
+goals_in l (Rows rows ∷ q) = ap (λ gs. goals_of_rows l 1 (length rows) ++ gs) (goals_in (suc l) q)
 
-pub made_is : (c : CodeTree) (f : Family) (k : ℕ) (q : List LoopPoint) (ranks : Option (List (List Form))) (kinds : List KeptKind) (b : Bool) (steps : List Step) (events : List Event) (env : Env) (m : Made) (g : Goals)
-    → kinds ≡ kept_kinds q → b ≡ is_some ranks
+ranks_in : (l : ℕ) (q : List LoopPoint) → ranks_of_kinds l (kept_kinds q) ≡ rank_goals l q
+ranks_in l [] = refl
+ranks_in l (Bottom ∷ q) = ranks_in (suc l) q
+ranks_in l (Rows rows ∷ q) = ap (λ gs. RankGoal l ∷ gs) (ranks_in (suc l) q)
+
+goals_same : (n : ℕ) (q : List LoopPoint) (ranks : Option (List (List Form))) → goals_of_kinds n (kept_kinds q) (is_some ranks) ≡ goals n q ranks
+goals_same n q None = ap (λ gs. gs ++ check_goals 1 n) (goals_in 1 q)
+goals_same n q (Some ranks) = (λ i. goals_in 1 q i ++ ranks_in 1 q i)
+
+-- the formulas at a point are those of the kinds that its loops have, and of its fill
+pub at_point : (c : CodeTree) (f : Family) (k : ℕ) (q : List LoopPoint) (ranks : Option (List (List Form)))
+    → walk_formulas_with c f k (kept_kinds q) (is_some ranks) (fill_of (vars_of c) q ranks) ≡ walk_formulas c f k q ranks
+unfolding walk_formulas walk_formulas_with
+at_point c f k q ranks =
+    let same : ssa c f k (kinds_of (kept_kinds q)) (is_some ranks) ≡ equations c f k q ranks = ap (λ g. ssa c f k g (is_some ranks)) (kinds_same q) in
+    (λ i. formulas_of (clauses_of (setting c q ranks) (same i).steps) (same i).events (goals_same (length c.checks) q ranks i))
+
+pub of_point : (g : Goals) (c : CodeTree) (f : Family) (k : ℕ) (q : List LoopPoint) (ranks : Option (List (List Form))) (kinds : List KeptKind) (b : Bool) (fill : Fill)
+    → kinds ≡ kept_kinds q → b ≡ is_some ranks → fill ≡ fill_of (vars_of c) q ranks → AreFormulas g (walk_formulas_with c f k kinds b fill) → AreFormulas g (walk_formulas c f k q ranks)
+of_point g c f k q ranks kinds b fill ks bs fs h =
+    subst (AreFormulas g) ((λ i. walk_formulas_with c f k (ks i) (bs i) (fs i)) ∙ at_point c f k q ranks) h
+
+pub made_is : (c : CodeTree) (f : Family) (k : ℕ) (kinds : List KeptKind) (b : Bool) (fill : Fill) (steps : List Step) (events : List Event) (env : Env) (m : Made) (g : Goals)
     → steps ≡ (ssa c f k (kinds_of kinds) b).steps → events ≡ (ssa c f k (kinds_of kinds) b).events
-    → env ≡ (clauses_of (setting c q ranks) steps).env → m ≡ (clauses_of (setting c q ranks) steps).made
+    → env ≡ (clauses_of (setting_of c fill) steps).env → m ≡ (clauses_of (setting_of c fill) steps).made
     → map literals_of g.base ≡ m.clauses → all_numbers (map literals_of g.base) ≡ g.base
-    → map literals_of g.last ≡ map (λ goal. literals env goal events) (goals (length c.checks) q ranks) → all_numbers (map literals_of g.last) ≡ g.last
+    → map literals_of g.last ≡ map (λ goal. literals env goal events) (goals_of_kinds (length c.checks) kinds b) → all_numbers (map literals_of g.last) ≡ g.last
     → g.variables ≡ m.next
-    → AreFormulas g (formulas c f k q ranks)
-unfolding formulas
-made_is c f k q ranks kinds b steps events env m g ks bs xs es env_is m_is base base_same last last_same variables =
-    let same = equations_same c f k q ranks kinds b ks bs in
-    let steps_are : steps ≡ (equations c f k q ranks).steps = xs ∙ ap (λ o. o.steps) same in
-    let events_are : events ≡ (equations c f k q ranks).events = es ∙ ap (λ o. o.events) same in
-    let envs : env ≡ (clauses_of (setting c q ranks) (equations c f k q ranks).steps).env = env_is ∙ ap (λ ss. (clauses_of (setting c q ranks) ss).env) steps_are in
-    let made : m ≡ (clauses_of (setting c q ranks) (equations c f k q ranks).steps).made = m_is ∙ ap (λ ss. (clauses_of (setting c q ranks) ss).made) steps_are in
+    → AreFormulas g (walk_formulas_with c f k kinds b fill)
+unfolding walk_formulas_with
+made_is c f k kinds b fill steps events env m g xs es env_is m_is base base_same last last_same variables =
+    let o = ssa c f k (kinds_of kinds) b in
+    let envs : env ≡ (clauses_of (setting_of c fill) o.steps).env = env_is ∙ ap (λ ss. (clauses_of (setting_of c fill) ss).env) xs in
+    let made : m ≡ (clauses_of (setting_of c fill) o.steps).made = m_is ∙ ap (λ ss. (clauses_of (setting_of c fill) ss).made) xs in
     record {
       base = sym base_same ∙ ap all_numbers (base ∙ ap (λ t. t.clauses) made);
       variables = variables ∙ ap (λ t. t.next) made;
-      last = sym last_same ∙ ap all_numbers (last ∙ ap (λ e. map (λ goal. literals e goal events) (goals (length c.checks) q ranks)) envs
-          ∙ ap (λ ev. map (λ goal. literals (clauses_of (setting c q ranks) (equations c f k q ranks).steps).env goal ev) (goals (length c.checks) q ranks)) events_are);
+      last = sym last_same ∙ ap all_numbers (last ∙ ap (λ e. map (λ goal. literals e goal events) (goals_of_kinds (length c.checks) kinds b)) envs
+          ∙ ap (λ ev. map (λ goal. literals (clauses_of (setting_of c fill) o.steps).env goal ev) (goals_of_kinds (length c.checks) kinds b)) es);
     }
 
 pub moved : (s : Setting) (sets sets' : Sets) (items : List KeptStep) (g : Made) → sets ≡ sets' → g ≡ start → blast s (steps_of (family sets) items) [] g ≡ clauses_of s (steps_of (family sets') items)
 moved s sets sets' items g e h = ap (λ ss. blast s (steps_of (family ss) items) [] g) e ∙ ap (blast s (steps_of (family sets') items) []) h
 
-lasts : (n : ℕ) (q : List LoopPoint) (ranks : Option (List (List Form))) → (if is_some ranks then rank_goals 1 q else check_goals 1 n) ≡ last_goals n q ranks
-lasts n q None = refl
-lasts n q (Some ranks) = refl
-
-pub last_is : (words : Env) (events events' : List KeptEvent) (q : List LoopPoint) (ranks : Option (List (List Form))) (b : Bool) (n n' : ℕ) → events ≡ events' → n ≡ n' → b ≡ is_some ranks
-    → map (λ g. literals words g (events_of events)) (row_goals 1 q ++ (if b then rank_goals 1 q else check_goals 1 n)) ≡ map (λ g. literals words g (events_of events')) (goals n' q ranks)
-last_is words events events' q ranks b n n' e h k =
-    ap (λ es. map (λ g. literals words g (events_of es)) (row_goals 1 q ++ (if b then rank_goals 1 q else check_goals 1 n))) e
-    ∙ ap (λ m. map (λ g. literals words g (events_of events')) (row_goals 1 q ++ (if b then rank_goals 1 q else check_goals 1 m))) h
-    ∙ ap (λ t. map (λ g. literals words g (events_of events')) (row_goals 1 q ++ (if t then rank_goals 1 q else check_goals 1 n'))) k
-    ∙ ap (λ gs. map (λ g. literals words g (events_of events')) (row_goals 1 q ++ gs)) (lasts n' q ranks)
+pub last_is : (words : Env) (events events' : List KeptEvent) (kinds : List KeptKind) (b : Bool) (n n' : ℕ) → events ≡ events' → n ≡ n'
+    → map (λ g. literals words g (events_of events)) (goals_of_kinds n kinds b) ≡ map (λ g. literals words g (events_of events')) (goals_of_kinds n' kinds b)
+last_is words events events' kinds b n n' e h = (λ i. map (λ g. literals words g (events_of (e i))) (goals_of_kinds (h i) kinds b))

@@ -2,16 +2,15 @@
 ghost use Rattle.std.specs.Prelude.{◌≡◌, ◌++◌, ◌∷◌, [], if◌then◌else◌, IfOk, OnOk, map};
 ghost use Rattle.l2_gates.specs.Gates.{literal_of, literals_of, F, same};
 ghost use Rattle.l2_ssa.specs.Views.{goal_of, events_of};
-ghost use Rattle.l2_ssa_points.specs.Goals.{loop_goals, row_goals, goals_of_rows, loop_rank_goals, rank_goals, check_goals};
-ghost use Rattle.l2_goals.specs.Formulas.{literals, same_goal};
+ghost use Rattle.l2_ssa_points.specs.Goals.{goals_of_rows, check_goals};
+ghost use Rattle.l2_goals.specs.Formulas.{literals, same_goal, rows_of_kind, rows_of_kinds, rank_of_kind, ranks_of_kinds, goals_of_kinds};
 ghost use Rattle.l2_goals.specs.Kept.{endings};
 
 use crate::numbering::number;
 use l2_blast::Words;
 use l2_circuits::falsity;
 use l2_cnf::{ClauseList, Lit};
-use l2_ssa::{Event, Goal};
-use l2_templates::{LoopPoint, Point};
+use l2_ssa::{Event, Goal, Kind};
 use std::alloc::{AllocError, Global};
 
 fn same_goal(a: Goal, b: Goal) -> bool
@@ -77,11 +76,11 @@ impl<'a> Endings<'a> {
         alloc: Global,
         last: &mut ClauseList,
         of_loop: u32,
-        rows: usize,
+        rows: u32,
     ) -> Result<(), AllocError>
         ensures { OnOk result (map literals_of last.new ≡ map literals_of last.old ++ endings self.entry (goals_of_rows of_loop 1 rows)) }
     {
-        for i in 0..rows {
+        for i in 0..rows as usize {
             let row = number(i)?;
             self.push(alloc, last, Goal::Row(of_loop, row))?;
         }
@@ -93,13 +92,14 @@ impl<'a> Endings<'a> {
         alloc: Global,
         last: &mut ClauseList,
         of_loop: u32,
-        at: &LoopPoint,
+        kind: Kind,
     ) -> Result<(), AllocError>
-        ensures { OnOk result (map literals_of last.new ≡ map literals_of last.old ++ endings self.entry (loop_goals of_loop at.now)) }
+        ensures { OnOk result (map literals_of last.new ≡ map literals_of last.old ++ endings self.entry (rows_of_kind of_loop kind)) }
     {
-        match at {
-            LoopPoint::Bottom => self.push(alloc, last, Goal::Row(of_loop, 0)),
-            LoopPoint::Rows(rows) => self.push_rows(alloc, last, of_loop, rows.len()),
+        match kind {
+            Kind::Bottom => self.push(alloc, last, Goal::Row(of_loop, 0)),
+            Kind::Plain => Ok(()),
+            Kind::Rows(rows) => self.push_rows(alloc, last, of_loop, rows),
         }
     }
 
@@ -107,13 +107,13 @@ impl<'a> Endings<'a> {
         self,
         alloc: Global,
         last: &mut ClauseList,
-        point: &Point,
+        kinds: &[Kind],
     ) -> Result<(), AllocError>
-        ensures { OnOk result (map literals_of last.new ≡ map literals_of last.old ++ endings self.entry (row_goals 1 point.now)) }
+        ensures { OnOk result (map literals_of last.new ≡ map literals_of last.old ++ endings self.entry (rows_of_kinds 1 kinds.now)) }
     {
-        for i in 0..point.len() {
+        for i in 0..kinds.len() {
             let of_loop = number(i)?;
-            self.push_loop(alloc, last, of_loop, point.get(i))?;
+            self.push_loop(alloc, last, of_loop, kinds[i])?;
         }
         Ok(())
     }
@@ -123,13 +123,14 @@ impl<'a> Endings<'a> {
         alloc: Global,
         last: &mut ClauseList,
         of_loop: u32,
-        at: &LoopPoint,
+        kind: Kind,
     ) -> Result<(), AllocError>
-        ensures { OnOk result (map literals_of last.new ≡ map literals_of last.old ++ endings self.entry (loop_rank_goals of_loop at.now)) }
+        ensures { OnOk result (map literals_of last.new ≡ map literals_of last.old ++ endings self.entry (rank_of_kind of_loop kind)) }
     {
-        match at {
-            LoopPoint::Bottom => Ok(()),
-            LoopPoint::Rows(_) => self.push(alloc, last, Goal::Rank(of_loop)),
+        match kind {
+            Kind::Bottom => Ok(()),
+            Kind::Plain => Ok(()),
+            Kind::Rows(_) => self.push(alloc, last, Goal::Rank(of_loop)),
         }
     }
 
@@ -137,13 +138,13 @@ impl<'a> Endings<'a> {
         self,
         alloc: Global,
         last: &mut ClauseList,
-        point: &Point,
+        kinds: &[Kind],
     ) -> Result<(), AllocError>
-        ensures { OnOk result (map literals_of last.new ≡ map literals_of last.old ++ endings self.entry (rank_goals 1 point.now)) }
+        ensures { OnOk result (map literals_of last.new ≡ map literals_of last.old ++ endings self.entry (ranks_of_kinds 1 kinds.now)) }
     {
-        for i in 0..point.len() {
+        for i in 0..kinds.len() {
             let of_loop = number(i)?;
-            self.push_rank(alloc, last, of_loop, point.get(i))?;
+            self.push_rank(alloc, last, of_loop, kinds[i])?;
         }
         Ok(())
     }
@@ -163,20 +164,20 @@ impl<'a> Endings<'a> {
         Ok(())
     }
 
-    /// The last clause of each goal, of rankings or of so many checks.
+    /// The last clause of each goal of loops of these kinds, and of rankings or of so many checks.
     pub fn last_clauses(
         self,
         alloc: Global,
         checks: usize,
-        point: &Point,
+        kinds: &[Kind],
         ranks: bool,
     ) -> Result<ClauseList, AllocError>
-        ensures { IfOk result (λ last. map literals_of last ≡ endings self.entry (row_goals 1 point.now ++ (if ranks then rank_goals 1 point.now else check_goals 1 checks))) }
+        ensures { IfOk result (λ last. map literals_of last ≡ endings self.entry (goals_of_kinds checks kinds.now ranks)) }
     {
         let mut last = ClauseList::new(alloc);
-        self.push_all_rows(alloc, &mut last, point)?;
+        self.push_all_rows(alloc, &mut last, kinds)?;
         if ranks {
-            self.push_ranks(alloc, &mut last, point)?;
+            self.push_ranks(alloc, &mut last, kinds)?;
         } else {
             self.push_checks(alloc, &mut last, checks)?;
         }

@@ -7,4 +7,7 @@ mod lists;
 mod making;
 mod numbering;
 
-pub use making::{GoalError, Goals, goals_of};
+pub use clauses::Endings;
+pub use filling::PointFill;
+pub use lists::check_list;
+pub use making::{GoalError, Goals, formulas_with, goals_of};

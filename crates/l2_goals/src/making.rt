@@ -4,17 +4,19 @@ ghost use Rattle.l2_code.specs.Trees.{code_of};
 ghost use Rattle.l2_code.specs.Sets.{AllRise, family};
 ghost use Rattle.l2_code.specs.Sizes.{size};
 ghost use Rattle.l2_unwind.specs.Refused.{most_weight};
-ghost use Rattle.l2_goals.specs.Formulas.{formulas};
+ghost use Rattle.l2_goals.specs.Formulas.{walk_formulas_with, formulas_with, formulas};
 ghost use Rattle.l2_goals.specs.Numbers.{AreFormulas, row_counts};
 
 use crate::clauses::Endings;
 use crate::filling::PointFill;
 use crate::lists::check_list;
 use crate::numbering::{kinds, row_counts};
-use l2_blast::blast;
+use l2_blast::{Fill, blast};
 use l2_cnf::ClauseList;
 use l2_code::{Code, Sets};
 use l2_gates::Gates;
+use l2_labels::one_label;
+use l2_ssa::Kind;
 use l2_templates::{Point, Ranks};
 use l2_unwind::{UnwindError, unwind};
 use l2_walk::walk;
@@ -52,29 +54,28 @@ impl From<AllocError> for GoalError {
     }
 }
 
-/// The formulas, of code that isn't too large.
-fn made(
+/// The formulas of a code as its labels stand.
+fn made<F: Fill>(
     alloc: Global,
     code: &Code,
     sets: &Sets,
     copies: u32,
-    point: &Point,
-    ranks: Option<&Ranks>,
+    kinds: &[Kind],
+    ranks: bool,
+    fill: &F,
 ) -> Result<Goals, AllocError>
-    ensures ok { IfOk result (λ g. AreFormulas g (formulas (code_of code.now) (family sets.now) copies point.now (option_map (λ r. r.now) ranks.entry))) }
+    ensures ok { IfOk result (λ g. AreFormulas g (walk_formulas_with (code_of code.now) (family sets.now) copies kinds.now ranks (F.fill fill.now))) }
     ensures within { IfOk result (λ g. AllWithin g.variables g.base × AllWithin g.variables g.last) }
 {
-    let kinds = kinds(alloc, point)?;
-    let ssa = walk(alloc, code, sets, copies, &kinds, ranks.is_some())?;
-    let fill = PointFill { code, point, ranks };
+    let ssa = walk(alloc, code, sets, copies, kinds, ranks)?;
     let mut gates = Gates::new(alloc)?;
-    let words = blast(alloc, code, &ssa, &fill, &mut gates)?;
+    let words = blast(alloc, code, &ssa, fill, &mut gates)?;
     let endings = Endings {
         words: &words,
         events: ssa.events.as_slice(),
     };
     let checks = code.checks.as_slice().len();
-    let last = endings.last_clauses(alloc, checks, point, ranks.is_some())?;
+    let last = endings.last_clauses(alloc, checks, kinds, ranks)?;
     let variables = gates.variables();
     let base = gates.into_clauses();
     check_list(&base, variables)?;
@@ -84,6 +85,24 @@ fn made(
         variables,
         last,
     })
+}
+
+/// The formulas of the goals of a code with so many copies of each turn, whose loops are of these kinds, by their numbers: of rows,
+/// and of rankings where these are asked for, else of checks. The fill says what rows and rankings are. Code of any weight is taken.
+pub fn formulas_with<F: Fill>(
+    alloc: Global,
+    code: &Code,
+    sets: &Sets,
+    copies: u32,
+    kinds: &[Kind],
+    ranks: bool,
+    fill: &F,
+) -> Result<Goals, AllocError>
+    ensures ok { IfOk result (λ g. AreFormulas g (formulas_with (code_of code.now) (family sets.now) copies kinds.now ranks (F.fill fill.now))) }
+    ensures within { IfOk result (λ g. AllWithin g.variables g.base × AllWithin g.variables g.last) }
+{
+    let code = one_label(alloc, code)?;
+    made(alloc, &code, sets, copies, kinds, ranks, fill)
 }
 
 /// The formulas of the goals of a code with so many copies of each turn at a point: of rows, and of rankings where there are some,
@@ -108,5 +127,7 @@ pub fn goals_of(
         Err(UnwindError::TooLarge { .. }) => return Err(GoalError::TooLarge),
         Err(UnwindError::NoMemory) => return Err(GoalError::NoMemory),
     }
-    Ok(made(alloc, code, sets, copies, point, ranks)?)
+    let kinds = kinds(alloc, point)?;
+    let fill = PointFill { code, point, ranks };
+    Ok(formulas_with(alloc, code, sets, copies, &kinds, ranks.is_some(), &fill)?)
 }

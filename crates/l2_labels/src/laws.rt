@@ -1,5 +1,5 @@
 //! What holds of code whose labels are merged: functions without effect whose contracts are the laws.
-ghost use Rattle.l2_labels.specs.Law.{RunsAlike, StaysWellFormed, StaysResolved};
+ghost use Rattle.l2_labels.specs.Law.{RunsAlike, StaysWellFormed, StaysResolved, WeighsAlike};
 
 /// It does what the code does.
 pub fn runs_alike()
@@ -14,4 +14,9 @@ pub fn stays_well_formed()
 /// Sets with which the code may be resolved are such of it.
 pub fn stays_resolved()
     ensures { StaysResolved }
+{}
+
+/// It weighs what the code does.
+pub fn weighs_alike()
+    ensures { WeighsAlike }
 {}

@@ -1,13 +1,13 @@
 -- Loops under renumbered tests.
 use Rattle.std.proofs.Common.{◌≡◌, ℕ, zero, suc, ℤ, pos, Bool, true, false, List, [], ◌∷◌, Option, Some, None, refl, sym, ap, ◌∙◌}
-use Rattle.std.specs.Prelude.{◌||◌, ◌==◌}
+use Rattle.std.specs.Prelude.{◌||◌, ◌&&◌, ◌==◌}
 use Rattle.std.specs.Ordering.{int_eq}
 use Rattle.l2_runs.specs.declared.outcome.Outcome.{Outcome}
 use Rattle.l2_runs.specs.declared.outcome.Outcome.TheVariants.{Stopped, Broken, OutOfTurns}
 use Rattle.l2_runs.specs.Store.{Store}
 use Rattle.l2_runs.specs.Runs.{State, Over, Fallen, Result, Go, Halt, Run, on_go, and_then, done, either, take_choice, choose, demand, check}
 use Rattle.l2_runs.specs.Loops.{Limit, Real, Short, Cut, Test, Tests, Turn, events, or_events, tested, or_next, or_stop, rounds, behind, spend_of, spend, tally, later_copies, limited, loop_of}
-use Rattle.l2_renumber_laws.specs.Renumbered.{renumbered_end, AreRenumbered, nothing, same, extra, never}
+use Rattle.l2_renumber_laws.specs.Renumbered.{renumbered_end, AreRenumbered, nothing, same, extra, never, all_hold}
 
 module _ (number : ℕ → ℕ → ℕ) where
   abbrev pub renumbered : {A : Type 0} → Result A → Result A
@@ -120,10 +120,42 @@ module _ (number : ℕ → ℕ → ℕ) where
         by = λ s. (then_renames choose_renames (λ z. either_renames (int_eq z (pos 0)) (rounds_renames Stopped (suc k) (f y) (g y) (renames y)) (then_renames (q l) (λ u. later_renames y k)))).by s;
       }
 
-  module _ (tests others : Tests) (are : (y : Bool) (l : ℕ) → AreRenumbered (number l) (tests y l) (others y l)) where
+  -- ends of turns do the same, and fall at the other number
+  abbrev pub EndsRename : Tests → Tests → Type 0
+  EndsRename tests others = (y : Bool) (l : ℕ) (a : Store) (s : State) → events y l (others y l) a s ≡ renumbered (events y l (tests y l) a s)
+
+  pub renumbered_ends : (tests others : Tests) → ((y : Bool) (l : ℕ) → AreRenumbered (number l) (tests y l) (others y l)) → EndsRename tests others
+  renumbered_ends tests others are y l = events_same y l (tests y l) (others y l) (are y l)
+
+  -- where an end doesn't count, it's asked alone whether all tests hold
+  abbrev goes_if : Bool → Run (Unit {0})
+  goes_if true s = Go tt s
+  goes_if false s = Halt (Over Stopped) s
+
+  uncounted : (l : ℕ) (ts : List Test) (a : Store) (s : State) → events false l ts a s ≡ goes_if (all_hold ts a s.store) s
+  uncounted l [] a s = refl
+  uncounted l (t ∷ ts) a s = by_test (t.holds a s.store) (uncounted l ts a s)
+    where
+      by_test : (ok : Bool) → events false l ts a s ≡ goes_if (all_hold ts a s.store) s → on_go (demand false (Fallen l t.row) ok s) (λ v. events false l ts a) ≡ goes_if (ok && all_hold ts a s.store) s
+      by_test true h = h
+      by_test false h = refl
+
+  uncounted_same : (l : ℕ) (ts us : List Test) (a : Store) (s : State) → all_hold us a s.store ≡ all_hold ts a s.store → events false l us a s ≡ renumbered (events false l ts a s)
+  uncounted_same l ts us a s e =
+      uncounted l us a s ∙ ap (λ ok. goes_if ok s) e ∙ same_number (all_hold ts a s.store) ∙ sym (ap renumbered (uncounted l ts a s))
+    where
+      same_number : (ok : Bool) → goes_if ok s ≡ renumbered (goes_if ok s)
+      same_number true = refl
+      same_number false = refl
+
+  pub counted_ends : (tests others : Tests) → ((l : ℕ) → AreRenumbered (number l) (tests true l) (others true l)) → ((l : ℕ) (a b : Store) → all_hold (others false l) a b ≡ all_hold (tests false l) a b) → EndsRename tests others
+  counted_ends tests others are alike true l = events_same true l (tests true l) (others true l) (are l)
+  counted_ends tests others are alike false l = λ a s. uncounted_same l (tests false l) (others false l) a s (alike l a s.store)
+
+  module _ (tests others : Tests) (are : EndsRename tests others) where
     or_events_renames : {F : Type 0} (y : Bool) (l : ℕ) (a : Store) (x : Unit {0} × Option F) → Renames (or_events y l (tests y l) a x) (or_events y l (others y l) a x)
     or_events_renames y l a (c, None) =
-        record { by = λ s. on_result (events y l (tests y l) a s) (events y l (others y l) a s) (λ u. done (c, None)) (λ u. done (c, None)) (events_same y l (tests y l) (others y l) (are y l) a s) (λ u. done_renames (c, None)) }
+        record { by = λ s. on_result (events y l (tests y l) a s) (events y l (others y l) a s) (λ u. done (c, None)) (λ u. done (c, None)) (are y l a s) (λ u. done_renames (c, None)) }
     or_events_renames y l a (c, Some v) = record { by = λ s. refl }
 
     pub loop_renames : {F : Type 0} (limit : Limit) → StartsQuiet limit → (l : ℕ) (f g : Bool → Turn (Unit {0}) F) → ((y : Bool) → Renames (f y tt) (g y tt)) → (y : Bool) → Renames (loop_of limit tests l f y tt) (loop_of limit others l g y tt)

@@ -1,5 +1,5 @@
 -- Trees under renumbered tests.
-use Rattle.std.proofs.Common.{◌≡◌, ℕ, suc, ℤ, Bool, true, List, [], ◌∷◌, length, Option, Some, None, refl, ap}
+use Rattle.std.proofs.Common.{◌≡◌, ℕ, suc, ℤ, Bool, true, false, List, [], ◌∷◌, length, Option, Some, None, refl, ap}
 use Rattle.std.specs.Prelude.{not}
 use Rattle.l2_runs.specs.declared.cells.CellType.{CellType}
 use Rattle.l2_runs.specs.declared.cells.CellType.TheVariants.{Integer, Pointer}
@@ -19,8 +19,8 @@ use Rattle.l2_meaning.specs.Meaning.{Value, Ending, Next, Broke, Continued, Retu
 use Rattle.l2_meaning.specs.Execution.{cells_of, calls_of, declare_all, enter, run_program, main_among, first_store, report}
 use Rattle.l2_cuts.specs.Points.{starts}
 use Rattle.l2_cuts.specs.Cuts.{mods_of, cut_limit, cut_end}
-use Rattle.l2_renumber_laws.specs.Renumbered.{renumbered_end, AreRenumbered}
-use Rattle.l2_renumber_laws.proofs.Loops.{renumbered, Renames, then_renames, done_renames, choose_renames, check_renames, either_renames, StartsQuiet, loop_renames}
+use Rattle.l2_renumber_laws.specs.Renumbered.{renumbered_end, AreRenumbered, all_hold}
+use Rattle.l2_renumber_laws.proofs.Loops.{renumbered, Renames, then_renames, done_renames, choose_renames, check_renames, either_renames, StartsQuiet, loop_renames, EndsRename, renumbered_ends, counted_ends}
 
 module _ (number : ℕ → ℕ → ℕ) where
   abbrev Ok : {A : Type 0} → Run A → Run A → Type 0
@@ -61,7 +61,7 @@ module _ (number : ℕ → ℕ → ℕ) where
 
   -- ---- trees
 
-  module _ (tests others : Tests) (are : (y : Bool) (l : ℕ) → AreRenumbered (number l) (tests y l) (others y l)) (limit : Limit) (quiet : StartsQuiet number limit) (is_main : Bool) (cells : Layout) (calls other_calls : Calls) where
+  module _ (tests others : Tests) (are : EndsRename number tests others) (limit : Limit) (quiet : StartsQuiet number limit) (is_main : Bool) (cells : Layout) (calls other_calls : Calls) where
     abbrev here : Setting
     here = record { limit = limit; tests = tests; is_main = is_main; cells = cells; calls = calls }
 
@@ -149,8 +149,16 @@ module _ (number : ℕ → ℕ → ℕ) where
 abbrev start : ProgramTree → List ℤ → State
 start p choices = record { store = first_store p; choices = choices; turns = 0; arrivals = 0 }
 
-pub renumbering : (p : ProgramTree) (sets : ℕ → Member → Bool) (k : ℕ) (q : List LoopPoint) (number : ℕ → ℕ → ℕ) (tests others : Tests) → ((counted : Bool) (l : ℕ) → AreRenumbered (number l) (tests counted l) (others counted l)) → (choices : List ℤ) → cut_end p sets k q others choices ≡ renumbered_end number (cut_end p sets k q tests choices)
-renumbering p sets k q number tests others are choices =
-    let limit = cut_limit p sets k q in
-    same_report number choices 0 (run_program p limit tests (start p choices)) (run_program p limit others (start p choices))
-    ((main_ok number tests others are limit (back_ok number (cells_of p) sets (mods_of p) (starts q)) true (cells_of p) (calls_of p limit tests (length p.functions)) (calls_of p limit others (length p.functions)) (main_among p.names p.functions)).by (start p choices))
+module _ (p : ProgramTree) (sets : ℕ → Member → Bool) (k : ℕ) (q : List LoopPoint) (number : ℕ → ℕ → ℕ) (tests others : Tests) where
+  renaming : EndsRename number tests others → (choices : List ℤ) → cut_end p sets k q others choices ≡ renumbered_end number (cut_end p sets k q tests choices)
+  renaming are choices =
+      let limit = cut_limit p sets k q in
+      same_report number choices 0 (run_program p limit tests (start p choices)) (run_program p limit others (start p choices))
+      ((main_ok number tests others are limit (back_ok number (cells_of p) sets (mods_of p) (starts q)) true (cells_of p) (calls_of p limit tests (length p.functions)) (calls_of p limit others (length p.functions)) (main_among p.names p.functions)).by (start p choices))
+
+  pub renumbering : ((counted : Bool) (l : ℕ) → AreRenumbered (number l) (tests counted l) (others counted l)) → (choices : List ℤ) → cut_end p sets k q others choices ≡ renumbered_end number (cut_end p sets k q tests choices)
+  renumbering are = renaming (renumbered_ends number tests others are)
+
+  pub counted_alike : ((l : ℕ) → AreRenumbered (number l) (tests true l) (others true l)) → ((l : ℕ) (a b : Store) → all_hold (others false l) a b ≡ all_hold (tests false l) a b) → (choices : List ℤ)
+      → cut_end p sets k q others choices ≡ renumbered_end number (cut_end p sets k q tests choices)
+  counted_alike are alike = renaming (counted_ends number tests others are alike)

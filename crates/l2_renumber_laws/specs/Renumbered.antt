@@ -1,5 +1,5 @@
 -- Tests that go by other numbers, and the ends of runs under them.
-use Rattle.std.specs.Prelude.{◌≡◌, ℕ, true, false, List, [], ◌∷◌}
+use Rattle.std.specs.Prelude.{◌≡◌, ◌&&◌, ℕ, Bool, true, false, List, [], ◌∷◌}
 use Rattle.l2_runs.specs.Store.{Store}
 use Rattle.l2_runs.specs.Runs.{End, Over, Fallen}
 use Rattle.l2_runs.specs.Loops.{Test}
@@ -15,3 +15,8 @@ pub data AreRenumbered (number : ℕ → ℕ) : List Test → List Test → Type
   same : {t u : Test} {ts us : List Test} → u.row ≡ number t.row → ((a b : Store) → u.holds a b ≡ t.holds a b) → AreRenumbered number ts us → AreRenumbered number (t ∷ ts) (u ∷ us)
   extra : {u : Test} {ts us : List Test} → ((a b : Store) → u.holds a b ≡ true) → AreRenumbered number ts us → AreRenumbered number ts (u ∷ us)
   never : {t u : Test} {ts us : List Test} → u.row ≡ number t.row → ((a b : Store) → t.holds a b ≡ false) → ((a b : Store) → u.holds a b ≡ false) → AreRenumbered number (t ∷ ts) (u ∷ us)
+
+-- all tests hold of a turn from one store to another
+abbrev pub all_hold : List Test → Store → Store → Bool
+all_hold [] a b = true
+all_hold (t ∷ ts) a b = t.holds a b && all_hold ts a b

@@ -1,0 +1,11 @@
+pub mod Filling
+pub mod Events
+pub mod Sizes
+pub mod Models
+pub mod Words
+pub mod Listed
+pub mod Points
+pub mod Runs
+pub mod Formulas
+pub mod Programs
+pub mod Starts

@@ -1,0 +1,5 @@
+use Rattle.l2_goal_laws.proofs.Programs.{formulas_are_runs as proved}
+use Rattle.l2_goal_laws.proofs.laws.formulas_are_runs.Goals as goal
+
+pub returns : goal.returns
+returns c = proved c.programs.ensures

@@ -1,0 +1,6 @@
+//! Steps that refute goals: the logs of solvers.
+#![tactic(auto)]
+
+mod refuting;
+
+pub use refuting::refute_goals;

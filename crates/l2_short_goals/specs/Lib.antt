@@ -1,0 +1,3 @@
+pub mod Shorts
+pub mod Taken
+pub mod Kept

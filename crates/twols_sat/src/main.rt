@@ -1,0 +1,29 @@
+//! Solves formulas in DIMACS files, and checks derivations: `solve FILE PROOF`, `check FILE PROOF`.
+#![tactic(auto)]
+
+use l2_outside::{FileShelf, StdSink};
+use l2_sat::{SatStatus, sat_run};
+use std::process::ExitCode;
+use std::{env, io};
+
+fn main(rt: HostRuntime) -> ExitCode {
+    let alloc = rt.alloc();
+    let mut words = Vec::new(alloc);
+    match env::args(&rt) {
+        Ok(all) => {
+            for word in all.skip(1) {
+                if words.push(word).is_err() {
+                    return ExitCode::from(SatStatus::NoMemory.number());
+                }
+            }
+        }
+        Err(e) if e.kind() == io::ErrorKind::OutOfMemory => return ExitCode::from(
+            SatStatus::NoMemory.number(),
+        ),
+        // words that aren't UTF-8 are no command: none is handed on
+        Err(_) => {}
+    }
+    let mut shelf = FileShelf::new(&rt);
+    let mut out = StdSink::new(rt.stdout());
+    ExitCode::from(sat_run(alloc, &words, &mut shelf, &mut out).number())
+}
