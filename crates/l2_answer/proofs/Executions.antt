@@ -4,8 +4,8 @@ use Rattle.l2_witness.specs.ValuesFile.{InRange, spelling}
 use Rattle.l2_runs.specs.Loops.{Real, no_tests}
 use Rattle.l2_program.specs.Programs.{ProgramTree}
 use Rattle.l2_meaning.specs.Execution.{exec}
-use Rattle.l2_answer.specs.declared.status.Answer.{Answer}
-use Rattle.l2_answer.specs.declared.status.Status.TheVariants.{FileRefused}
+use Rattle.l2_status.specs.declared.status.Answer.{Answer}
+use Rattle.l2_status.specs.declared.status.Status.TheVariants.{FileRefused}
 use Rattle.l2_answer.specs.Replays.{Ends, IsNoValues, ReplaysOn, executed, values_refused}
 
 pub executes : {E : Type 0} (values : List ℕ) (p : ProgramTree) (turns : ℕ) (choices : List ℤ) → InRange turns choices → values ≡ spelling turns choices →

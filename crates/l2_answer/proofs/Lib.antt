@@ -1,5 +1,5 @@
 pub mod Executions
 pub mod Listed
+pub mod Made
 pub mod Requests
 pub mod Statuses
-pub mod Texts

@@ -5,15 +5,22 @@ use Rattle.l2_inputs.specs.Inputs.{Input, AreRead, HasFault, IsTooLong}
 use Rattle.l2_inputs.specs.declared.input.InputError.{InputError}
 use Rattle.l2_inputs.specs.declared.input.InputError.TheVariants as error
 use Rattle.l2_words.specs.declared.request.View.{View}
-use Rattle.l2_request.specs.Requests.{Request, Replay, Show, command, text, values_file, inputs}
-use Rattle.l2_answer.specs.declared.status.Answer.{Answer}
+use Rattle.l2_request.specs.Requests.{Request, Replay, Show, Check, Generate, command, text, values_file, certificate_file, inputs}
+use Rattle.l2_status.specs.declared.status.Answer.{Answer}
 use Rattle.l2_answer.specs.Replays.{Replays}
 use Rattle.l2_answer.specs.Shows.{Shows}
+use Rattle.l2_answer.specs.Generates.{Generates}
+use Rattle.l2_check_answer.specs.Checks.{Checks}
 use Rattle.l2_answer.specs.Answers.{Judges, Answers, IsUnread, unreadable, over_limit, judged}
 
 -- these two inputs are those of a replay
 pub replay_inputs : (file values : List ℕ) (i j : Input) → i ≡ text file → j ≡ values_file values → i ∷ j ∷ [] ≡ inputs (Replay file values)
 replay_inputs file values i j e f = λ k. e k ∷ f k ∷ []
+
+-- or of a check
+pub check_inputs : (file certificate : List ℕ) (jobs : ℕ) (i j : Input) → i ≡ text file → j ≡ certificate_file certificate →
+    i ∷ j ∷ [] ≡ inputs (Check file certificate jobs)
+check_inputs file certificate jobs i j e f = λ k. e k ∷ f k ∷ []
 
 -- this input is that of a show
 pub show_inputs : (view : View) (file : List ℕ) (i : Input) → i ≡ text file → i ∷ [] ≡ inputs (Show view file)
@@ -32,6 +39,18 @@ pub judged_replay : {E : Type 0} (files : Option Files) (before now : ℕ) (word
 judged_replay files before now words file values i j t v t' v' asks e f read p q r replays =
     judged_so files before now words (Replay file values) (i ∷ j ∷ []) (t ∷ v ∷ []) asks (replay_inputs file values i j e f) read r
     (subst (λ x. IfOk r (λ a. Replays t x a.status a.output.items)) q (subst (λ x. IfOk r (λ a. Replays x v' a.status a.output.items)) p replays))
+
+pub judged_check : {E : Type 0} (files : Option Files) (before now : ℕ) (words : List (List ℕ)) (file certificate : List ℕ) (jobs : ℕ) (i j : Input) (t v t' v' : List ℕ) →
+    command words ≡ Some (Check file certificate jobs) → i ≡ text file → j ≡ certificate_file certificate →
+    AreRead files (i ∷ j ∷ []) (t ∷ v ∷ []) → t' ≡ t → v' ≡ v →
+    (r : Result Answer E) → IfOk r (λ a. Checks t' v' a.status a.output.items) → IfOk r (λ a. Answers files before now words a.status a.output.items)
+judged_check files before now words file certificate jobs i j t v t' v' asks e f read p q r checks =
+    judged_so files before now words (Check file certificate jobs) (i ∷ j ∷ []) (t ∷ v ∷ []) asks (check_inputs file certificate jobs i j e f) read r
+    (subst (λ x. IfOk r (λ a. Checks t x a.status a.output.items)) q (subst (λ x. IfOk r (λ a. Checks x v' a.status a.output.items)) p checks))
+
+pub judged_generate : {E : Type 0} (files : Option Files) (before now : ℕ) (words : List (List ℕ)) (seed loops : ℕ) → command words ≡ Some (Generate seed loops) →
+    (r : Result Answer E) → IfOk r (λ a. Generates seed loops a.status a.output.items) → IfOk r (λ a. Answers files before now words a.status a.output.items)
+judged_generate files before now words seed loops asks r made = judged_so files before now words (Generate seed loops) [] [] asks refl tt r made
 
 pub judged_show : {E : Type 0} (files : Option Files) (before now : ℕ) (words : List (List ℕ)) (view : View) (file : List ℕ) (i : Input) (t t' : List ℕ) →
     command words ≡ Some (Show view file) → i ≡ text file → AreRead files (i ∷ []) (t ∷ []) → t' ≡ t →

@@ -4,11 +4,13 @@ use Rattle.l2_outside.specs.Outside.{Files, Rose, grown, GrewByPrefix}
 use Rattle.l2_inputs.specs.Inputs.{AreRead, HasFault, IsTooLong}
 use Rattle.l2_inputs.specs.declared.input.InputError.{InputError}
 use Rattle.l2_inputs.specs.declared.input.InputError.TheVariants as error
-use Rattle.l2_request.specs.Requests.{Request, Replay, Show, command, inputs}
-use Rattle.l2_answer.specs.declared.status.Status.{Status}
-use Rattle.l2_answer.specs.declared.status.Status.TheVariants.{Usage, ReadFault, WriteFault, NoMemory, TooLong}
+use Rattle.l2_request.specs.Requests.{Request, Replay, Show, Check, Generate, command, inputs}
+use Rattle.l2_status.specs.declared.status.Status.{Status}
+use Rattle.l2_status.specs.declared.status.Status.TheVariants.{Usage, ReadFault, WriteFault, NoMemory, TooLong}
 use Rattle.l2_answer.specs.Replays.{Replays}
 use Rattle.l2_answer.specs.Shows.{Shows}
+use Rattle.l2_answer.specs.Generates.{Generates}
+use Rattle.l2_check_answer.specs.Checks.{Checks}
 
 -- what a request comes to where these are the contents of its files
 abbrev pub Judges : Request → List (List ℕ) → Status → List ℕ → Type 0
@@ -16,6 +18,10 @@ Judges (Replay file values_file) (text ∷ values ∷ []) status line = Replays 
 Judges (Replay file values_file) contents status line = ⊥
 Judges (Show view file) (text ∷ []) status output = Shows view text status output
 Judges (Show view file) contents status output = ⊥
+Judges (Check file certificate_file jobs) (text ∷ certificate ∷ []) status line = Checks text certificate status line
+Judges (Check file certificate_file jobs) contents status line = ⊥
+Judges (Generate seed loops) [] status output = Generates seed loops status output
+Judges (Generate seed loops) contents status output = ⊥
 
 -- these files and words are answered with this status and this line, where the count of faults in reads was `before` and is `now`
 pub data Answers (files : Option Files) (before now : ℕ) (words : List (List ℕ)) (status : Status) (line : List ℕ) : Type 0 where

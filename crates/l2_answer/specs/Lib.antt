@@ -1,6 +1,6 @@
 pub mod Answers
+pub mod Generates
 pub mod Printed
 pub mod Replays
 pub mod Shows
 pub mod Statuses
-pub mod Texts

@@ -1,8 +1,6 @@
--- The line that is printed for an execution, and for a text that is refused.
+-- The line that is printed for an execution.
 use Rattle.std.specs.Prelude.{ℕ, List, ◌++◌, codes, decimal, Option, Some, option_map}
-use Rattle.l2_syntax.specs.declared.refusal.Refusal.{Refusal}
 use Rattle.l2_syntax.specs.Places.{place_text}
-use Rattle.l2_syntax.specs.Refusals.{rule_text}
 use Rattle.l2_runs.specs.declared.outcome.Outcome.{Outcome}
 use Rattle.l2_runs.specs.declared.outcome.Outcome.TheVariants.{Ended, Stopped, Broken, OutOfChoices, OutOfTurns}
 use Rattle.l2_runs.specs.Numbers.{at_number}
@@ -34,6 +32,3 @@ ListsBroken checks Stopped = Unit {0}
 ListsBroken checks (Broken c) = IsSome (at_number checks c)
 ListsBroken checks OutOfChoices = Unit {0}
 ListsBroken checks OutOfTurns = Unit {0}
-
-abbrev pub refusal_line : Refusal → List ℕ
-refusal_line f = codes "REFUSED " ++ place_text f.place ++ codes " " ++ rule_text f.rule ++ codes "\n"

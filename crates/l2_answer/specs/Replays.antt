@@ -6,11 +6,11 @@ use Rattle.l2_runs.specs.Runs.{Over}
 use Rattle.l2_runs.specs.Loops.{Real, no_tests}
 use Rattle.l2_program.specs.Programs.{ProgramTree}
 use Rattle.l2_meaning.specs.Execution.{Execution, exec}
-use Rattle.l2_answer.specs.declared.status.Status.{Status}
-use Rattle.l2_answer.specs.declared.status.Status.TheVariants.{FileRefused}
+use Rattle.l2_status.specs.declared.status.Status.{Status}
+use Rattle.l2_status.specs.declared.status.Status.TheVariants.{FileRefused}
 use Rattle.l2_answer.specs.Statuses.{status_of}
 use Rattle.l2_answer.specs.Printed.{replay_line}
-use Rattle.l2_answer.specs.Texts.{OfText}
+use Rattle.l2_status.specs.Texts.{OfText}
 
 -- an execution comes to an outcome, with this status and this line
 pub record Ends (p : ProgramTree) (e : Execution) (status : Status) (line : List ℕ) : Type 0 where

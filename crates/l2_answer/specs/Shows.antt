@@ -9,9 +9,9 @@ use Rattle.l2_listing.specs.Texts.{listing}
 use Rattle.l2_show.specs.Loops.{loops_text}
 use Rattle.l2_words.specs.declared.request.View.{View}
 use Rattle.l2_words.specs.declared.request.View.TheVariants.{Goto, Loops}
-use Rattle.l2_answer.specs.declared.status.Status.{Status}
-use Rattle.l2_answer.specs.declared.status.Status.TheVariants.{Fine, Unknown}
-use Rattle.l2_answer.specs.Texts.{OfText}
+use Rattle.l2_status.specs.declared.status.Status.{Status}
+use Rattle.l2_status.specs.declared.status.Status.TheVariants.{Fine, Unknown}
+use Rattle.l2_status.specs.Texts.{OfText}
 
 -- the listing of a code, but where it is too large
 pub data ListsCode (c : CodeTree) (status : Status) (output : List ℕ) : Type 0 where

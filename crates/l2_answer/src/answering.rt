@@ -1,17 +1,21 @@
 ghost use Rattle.std.specs.Prelude.{◌≡◌, ◌≤◌, IfOk, Some, List, ℕ, codes};
 ghost use Rattle.l2_outside.specs.Outside.{Rose};
 ghost use Rattle.l2_words.specs.Line.{texts};
-ghost use Rattle.l2_request.specs.Requests.{Replay, Show, command};
+ghost use Rattle.l2_request.specs.Requests.{Check, Replay, Show, command};
 ghost use Rattle.l2_answer.specs.Answers.{Answers, IsUnread};
 
+use crate::generate_answer::generate_answer;
 use crate::replay_answer::replay_answer;
 use crate::show_answer::show_answer;
-use crate::status::{Answer, Status, fixed};
+use l2_check_answer::check_answer;
 use l2_inputs::{InputError, read_one, read_two};
 use l2_outside::Shelf;
-use l2_request::{Request, command, text, values_file};
+use l2_request::{Request, certificate_file, command, text, values_file};
+use l2_status::{Answer, Status, fixed};
 use l2_words::{View, WordsError};
 use std::alloc::{AllocError, Global};
+use std::marker::Sync;
+use std::thread::Threads;
 
 /// The answer where a request's files were not read.
 fn unread(alloc: Global, error: InputError) -> Result<Answer, AllocError>
@@ -62,8 +66,30 @@ fn answer_show<H: Shelf>(
     }
 }
 
-/// The answer to the words behind the program's name.
-pub fn answer<H: Shelf>(
+/// The answer of `check FILE CERT`.
+fn answer_check<R: Threads + Sync, H: Shelf>(
+    rt: &R,
+    alloc: Global,
+    file: &str,
+    certificate: &str,
+    jobs: u32,
+    shelf: &mut H,
+) -> Result<Answer, AllocError>
+    ensures answers { (words : List (List ℕ)) → command words ≡ Some (Check file.now certificate.now jobs) →
+        IfOk result (λ a. Answers (H.files shelf.old) (H.read_faults shelf.old) (H.read_faults shelf.new) words a.status a.output.items) }
+    ensures files { H.files shelf.new ≡ H.files shelf.old }
+    ensures read_faults { H.read_faults shelf.old ≤ H.read_faults shelf.new }
+    ensures write_faults { H.write_faults shelf.new ≡ H.write_faults shelf.old }
+{
+    match read_two(alloc, text(file), certificate_file(certificate), shelf) {
+        Ok((text, certificate)) => check_answer(rt, alloc, &text, &certificate, jobs),
+        Err(error) => unread(alloc, error),
+    }
+}
+
+/// The answer to the words behind the program's name. `rt` is there to check goals in parallel; no answer depends on it.
+pub fn answer<R: Threads + Sync, H: Shelf>(
+    rt: &R,
     alloc: Global,
     words: &[String],
     shelf: &mut H,
@@ -77,6 +103,14 @@ pub fn answer<H: Shelf>(
     match command(alloc, words) {
         Ok(Request::Replay { file, values }) => answer_replay(alloc, file, values, shelf),
         Ok(Request::Show { view, file }) => answer_show(alloc, view, file, shelf),
+        Ok(
+            Request::Check {
+                file,
+                certificate,
+                jobs,
+            },
+        ) => answer_check(rt, alloc, file, certificate, jobs, shelf),
+        Ok(Request::Generate { seed, loops }) => generate_answer(alloc, seed, loops),
         Err(WordsError::Usage) => fixed(alloc, Status::Usage, "USAGE\n"),
         Err(WordsError::NoMemory) => Err(AllocError),
     }

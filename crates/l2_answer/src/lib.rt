@@ -2,13 +2,12 @@
 #![tactic(auto)]
 
 mod answering;
+mod generate_answer;
 mod laws;
 mod line;
 mod replay_answer;
+mod replay_status;
 mod show_answer;
-mod status;
-mod text_answer;
 
 pub use answering::answer;
 pub use laws::status_law;
-pub use status::{Answer, Status};

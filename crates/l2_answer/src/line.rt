@@ -1,23 +1,13 @@
-ghost use Rattle.std.specs.Prelude.{◌≡◌, ◌++◌, Some, codes, decimal, IfOk, OnOk, string_bytes};
-ghost use Rattle.l2_runs.specs.Kinds.{kind_text};
-ghost use Rattle.l2_syntax.specs.Places.{place_text};
-ghost use Rattle.l2_syntax.specs.Refusals.{rule_text};
-ghost use Rattle.l2_answer.specs.Printed.{outcome_text, broken_text, replay_line, refusal_line, ListsBroken};
+ghost use Rattle.std.specs.Prelude.{◌≡◌, Some, IfOk, string_bytes};
+ghost use Rattle.l2_answer.specs.Printed.{outcome_text, broken_text, replay_line, ListsBroken};
 ghost use Rattle.l2_runs.specs.Numbers.{at_number};
 ghost use Rattle.l2_meaning.specs.Lawful.{IsSome};
 
 use l2_program::CheckInfo;
 use l2_replay::Replay;
 use l2_runs::{Outcome, index_of};
-use l2_syntax::{Place, Refusal};
+use l2_status::{place_text, push_number};
 use std::alloc::{AllocError, Global};
-
-/// A number behind a text.
-fn push_number(alloc: Global, text: &mut String, n: u64) -> Result<(), AllocError>
-    ensures { OnOk result (string_bytes text.new ≡ string_bytes text.old ++ decimal n) }
-{
-    text.push_str(format!(in alloc; "{n}")?.as_str())
-}
 
 /// A broken check, by its kind and its place.
 fn broken_text(alloc: Global, check: &CheckInfo) -> Result<String, AllocError>
@@ -28,17 +18,6 @@ fn broken_text(alloc: Global, check: &CheckInfo) -> Result<String, AllocError>
     text.push_str(check.kind.name())?;
     text.push_str(" ")?;
     text.push_str(place.as_str())?;
-    Ok(text)
-}
-
-/// `LINE:COL`.
-fn place_text(alloc: Global, place: Place) -> Result<String, AllocError>
-    ensures { IfOk result (λ s. string_bytes s ≡ place_text place) }
-{
-    let mut text = String::new(alloc);
-    push_number(alloc, &mut text, u64::from(place.line))?;
-    text.push_str(":")?;
-    push_number(alloc, &mut text, u64::from(place.col))?;
     Ok(text)
 }
 
@@ -81,19 +60,6 @@ pub fn replay_line(
     push_number(alloc, &mut text, replay.turns_used)?;
     text.push_str(" choices=")?;
     push_number(alloc, &mut text, replay.choices_used)?;
-    text.push_str("\n")?;
-    Ok(text.into_bytes())
-}
-
-/// The line that is printed for a text that is refused.
-pub fn refusal_line(alloc: Global, refusal: Refusal) -> Result<Vec<u8>, AllocError>
-    ensures { IfOk result (λ line. line.items ≡ refusal_line refusal) }
-{
-    let place = place_text(alloc, refusal.place)?;
-    let mut text = String::from_str(alloc, "REFUSED ")?;
-    text.push_str(place.as_str())?;
-    text.push_str(" ")?;
-    text.push_str(refusal.rule.name())?;
     text.push_str("\n")?;
     Ok(text.into_bytes())
 }

@@ -7,12 +7,12 @@ ghost use Rattle.l2_meaning.specs.Lawful.{IsLawful};
 ghost use Rattle.l2_answer.specs.Replays.{Ends, ReplaysOn, Replays};
 
 use crate::line::replay_line;
-use crate::status::{Answer, Status, fixed, status_of};
-use crate::text_answer::refused;
+use crate::replay_status::status_of;
 use l2_front::program_of;
 use l2_meaning::laws::broken_checks_are_listed;
 use l2_program::Program;
 use l2_replay::replay;
+use l2_status::{Answer, Status, fixed, refused};
 use l2_witness::{Values, ValuesError, read_values};
 use std::alloc::{AllocError, Global};
 

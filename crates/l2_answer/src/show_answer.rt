@@ -5,13 +5,12 @@ ghost use Rattle.l2_meaning.specs.Lawful.{IsLawful};
 ghost use Rattle.l2_lower.specs.Code.{code};
 ghost use Rattle.l2_answer.specs.Shows.{ListsCode, ShowsProgram, Shows};
 
-use crate::status::{Answer, Status, fixed};
-use crate::text_answer::refused;
 use l2_front::program_of;
 use l2_listing::listing;
 use l2_lower::{LowerError, lower};
 use l2_program::Program;
 use l2_show::loops_text;
+use l2_status::{Answer, Status, fixed, refused};
 use l2_words::View;
 use std::alloc::{AllocError, Global};
 

@@ -1,6 +1,7 @@
 //! Answers words over files in memory, so that each status and each line is seen.
 #![tactic(auto)]
 
+mod checks;
 mod rows;
 mod shows;
 mod trial;
@@ -16,6 +17,8 @@ fn main(rt: HostRuntime) -> ExitCode {
         && rows::commands(&rt, alloc)
         && shows::programs(&rt, alloc)
         && shows::refusals(&rt, alloc)
-        && shows::commands(&rt, alloc);
+        && shows::commands(&rt, alloc)
+        && checks::certificates(&rt, alloc)
+        && checks::commands(&rt, alloc);
     ExitCode::from(u8::from(!all))
 }

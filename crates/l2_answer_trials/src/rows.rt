@@ -24,7 +24,7 @@ const SHADOWS: &str = "int main(void){int x=1;if(x){int x=2;}return 0;}";
 /// A text on a values file with these lines behind its first.
 fn on(rt: &HostRuntime, alloc: Global, text: &str, lines: &str) -> bool {
     let answer = match format!(in alloc; "2ls values 1\n{lines}") {
-        Ok(values) => replayed(alloc, text.as_bytes(), values.as_str()),
+        Ok(values) => replayed(rt, alloc, text.as_bytes(), values.as_str()),
         Err(error) => Err(error),
     };
     report(rt, answer)
@@ -48,7 +48,10 @@ pub fn executions(rt: &HostRuntime, alloc: Global) -> bool {
 
 /// A text that is refused.
 fn refused(rt: &HostRuntime, alloc: Global, text: &[u8]) -> bool {
-    report(rt, replayed(alloc, text, "2ls values 1\nturns 0\nend\n"))
+    report(
+        rt,
+        replayed(rt, alloc, text, "2ls values 1\nturns 0\nend\n"),
+    )
 }
 
 /// Texts that are refused where reading stops, or that are beyond the small form.
@@ -68,50 +71,55 @@ pub fn refusals(rt: &HostRuntime, alloc: Global) -> bool {
 }
 
 /// A text, with so many `(` behind it.
-fn deep(alloc: Global, start: &str, depth: usize) -> Result<String, AllocError> {
+fn deep(rt: &HostRuntime, alloc: Global, start: &str, depth: usize) -> Result<String, AllocError> {
     let mut text = Vec::from_slice(alloc, start.as_bytes())?;
     for _ in 0..depth {
         text.push(b'(')?;
     }
-    replayed(alloc, &text, "2ls values 1\nturns 0\nend\n")
+    replayed(rt, alloc, &text, "2ls values 1\nturns 0\nend\n")
 }
 
 /// Texts as long and as deep as a limit, and beyond.
 pub fn limits(rt: &HostRuntime, alloc: Global) -> bool {
-    report(rt, deep(alloc, "int main(void){return ", 127))
-        && report(rt, deep(alloc, "int main(void){return ", 128))
-        && report(rt, deep(alloc, "", 1_048_576))
-        && report(rt, deep(alloc, "", 1_048_577))
+    report(rt, deep(rt, alloc, "int main(void){return ", 127))
+        && report(rt, deep(rt, alloc, "int main(void){return ", 128))
+        && report(rt, deep(rt, alloc, "", 1_048_576))
+        && report(rt, deep(rt, alloc, "", 1_048_577))
 }
 
 /// What `replay a.c v` is answered where this read fails and the output takes so many bytes.
-fn faulty(alloc: Global, failing: u64, room: usize) -> Result<String, AllocError> {
+fn faulty(
+    rt: &HostRuntime,
+    alloc: Global,
+    failing: u64,
+    room: usize,
+) -> Result<String, AllocError> {
     let values = "2ls values 1\nturns 0\nchoice 6\nend\n";
     let mut shelf = shelf(alloc, ROW.as_bytes(), values, &[failing])?;
-    asked(alloc, &["replay", "a.c", "v"], &mut shelf, room)
+    asked(rt, alloc, &["replay", "a.c", "v"], &mut shelf, room)
 }
 
 /// Faults of reading and of writing.
 pub fn faults(rt: &HostRuntime, alloc: Global) -> bool {
-    report(rt, faulty(alloc, 1, 100))
-        && report(rt, faulty(alloc, 2, 100))
-        && report(rt, faulty(alloc, 3, 3))
+    report(rt, faulty(rt, alloc, 1, 100))
+        && report(rt, faulty(rt, alloc, 2, 100))
+        && report(rt, faulty(rt, alloc, 3, 3))
 }
 
 /// What words are answered where `a.c` is longer than a text may be.
-fn long(alloc: Global, words: &[&str]) -> Result<String, AllocError> {
+fn long(rt: &HostRuntime, alloc: Global, words: &[&str]) -> Result<String, AllocError> {
     let mut text = Vec::new(alloc);
     for _ in 0..1_048_577u32 {
         text.push(b' ')?;
     }
     let mut shelf = shelf(alloc, &text, "", &[])?;
-    asked(alloc, words, &mut shelf, 100)
+    asked(rt, alloc, words, &mut shelf, 100)
 }
 
 /// What words are answered where there are files `a.c` and `v`.
 fn said(rt: &HostRuntime, alloc: Global, words: &[&str]) -> bool {
     let answer = match shelf(alloc, ROW.as_bytes(), "2ls values 1\nturns 0\nend\n", &[]) {
-        Ok(mut shelf) => asked(alloc, words, &mut shelf, 100),
+        Ok(mut shelf) => asked(rt, alloc, words, &mut shelf, 100),
         Err(error) => Err(error),
     };
     report(rt, answer)
@@ -132,6 +140,6 @@ pub fn commands(rt: &HostRuntime, alloc: Global) -> bool {
         && said(rt, alloc, &["replay", "--", "-a", "v"])
         && said(rt, alloc, &["replay", "-", "v"])
         && said(rt, alloc, &["replay", "a.c", "missing"])
-        && report(rt, long(alloc, &["replay", "a.c", "missing"]))
-        && report(rt, long(alloc, &["replay", "missing", "a.c"]))
+        && report(rt, long(rt, alloc, &["replay", "a.c", "missing"]))
+        && report(rt, long(rt, alloc, &["replay", "missing", "a.c"]))
 }

@@ -10,14 +10,14 @@ const NESTED: &str =
     "int main(void){int i=0;while(i<3){int j=0;while(j<i){j=j+1;}i=i+1;}return i;}";
 
 /// What is shown of a text.
-fn seen(alloc: Global, view: &str, text: &[u8]) -> Result<String, AllocError> {
+fn seen(rt: &HostRuntime, alloc: Global, view: &str, text: &[u8]) -> Result<String, AllocError> {
     let mut shelf = shelf(alloc, text, "", &[])?;
-    asked(alloc, &["show", view, "a.c"], &mut shelf, 1_000)
+    asked(rt, alloc, &["show", view, "a.c"], &mut shelf, 1_000)
 }
 
 /// Both views of a text.
 fn both(rt: &HostRuntime, alloc: Global, text: &[u8]) -> bool {
-    report(rt, seen(alloc, "goto", text)) && report(rt, seen(alloc, "loops", text))
+    report(rt, seen(rt, alloc, "goto", text)) && report(rt, seen(rt, alloc, "loops", text))
 }
 
 /// A text with so many assignments.
@@ -56,7 +56,7 @@ pub fn refusals(rt: &HostRuntime, alloc: Global) -> bool {
 /// What words are answered where there is a file `a.c`.
 fn said(rt: &HostRuntime, alloc: Global, words: &[&str], failing: &[u64]) -> bool {
     let answer = match shelf(alloc, COUNT.as_bytes(), "", failing) {
-        Ok(mut shelf) => asked(alloc, words, &mut shelf, 20),
+        Ok(mut shelf) => asked(rt, alloc, words, &mut shelf, 20),
         Err(error) => Err(error),
     };
     report(rt, answer)

@@ -1,6 +1,7 @@
 // What is answered over files in memory, and how it is printed.
-use l2_answer::{Answer, Status, answer};
+use l2_answer::answer;
 use l2_outside::{Failed, MemShelf, MemSink, write_text};
+use l2_status::{Answer, Status};
 use std::alloc::{AllocError, Global};
 use std::collections::BTreeMap;
 
@@ -39,6 +40,7 @@ fn delivered(alloc: Global, given: &Answer, room: usize) -> Result<String, Alloc
 
 /// What words are answered.
 pub fn asked(
+    rt: &HostRuntime,
     alloc: Global,
     words: &[&str],
     shelf: &mut MemShelf,
@@ -48,14 +50,19 @@ pub fn asked(
     for word in words {
         all.push(String::from_str(alloc, word)?)?;
     }
-    let given = answer(alloc, &all, shelf)?;
+    let given = answer(rt, alloc, &all, shelf)?;
     delivered(alloc, &given, room)
 }
 
 /// What `replay a.c v` is answered on these contents.
-pub fn replayed(alloc: Global, text: &[u8], values: &str) -> Result<String, AllocError> {
+pub fn replayed(
+    rt: &HostRuntime,
+    alloc: Global,
+    text: &[u8],
+    values: &str,
+) -> Result<String, AllocError> {
     let mut shelf = shelf(alloc, text, values, &[])?;
-    asked(alloc, &["replay", "a.c", "v"], &mut shelf, 100)
+    asked(rt, alloc, &["replay", "a.c", "v"], &mut shelf, 100)
 }
 
 /// Prints an answer, and says whether there was one.

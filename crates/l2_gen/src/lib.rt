@@ -61,8 +61,6 @@ fn push_loop(alloc: Global, text: &mut String, number: u32, most: u32) -> Result
 
 /// A program of so many loops, each with a variable and a constant of its own.
 pub fn program_of(alloc: Global, seed: u32, loops: u32) -> Result<String, AllocError>
-    requires low { 1 ≤ loops }
-    requires high { loops ≤ 64 }
     ensures { IfOk result (λ text. string_bytes text ≡ program seed loops) }
 {
     let mut text = String::from_str(alloc, "int main(void){\n")?;

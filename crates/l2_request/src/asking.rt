@@ -22,6 +22,16 @@ fn built<'a>(request: Asked<'a>) -> Option<Request<'a>>
             file,
             overflow: false,
         } => Some(Request::Show { view, file }),
+        Asked::Check {
+            file,
+            certificate,
+            jobs,
+        } => Some(Request::Check {
+            file,
+            certificate,
+            jobs,
+        }),
+        Asked::Generate { seed, loops } => Some(Request::Generate { seed, loops }),
         _ => None,
     }
 }

@@ -5,4 +5,4 @@ mod asking;
 mod request;
 
 pub use asking::command;
-pub use request::{Request, text, values_file};
+pub use request::{Request, certificate_file, text, values_file};

@@ -1,10 +1,10 @@
-//! A verifier for C programs. Today it replays executions of programs of a small form.
+//! A verifier for C programs. Today it checks certificates, and replays executions, of programs of a small form.
 #![tactic(auto)]
 
 mod run;
 
-use l2_answer::Status;
 use l2_outside::{FileShelf, StdSink};
+use l2_status::Status;
 pub use run::run;
 use std::process::ExitCode;
 use std::{env, io};
@@ -28,5 +28,5 @@ fn main(rt: HostRuntime) -> ExitCode {
     }
     let mut shelf = FileShelf::new(&rt);
     let mut out = StdSink::new(rt.stdout());
-    ExitCode::from(run(alloc, &words, &mut shelf, &mut out).number())
+    ExitCode::from(run(&rt, alloc, &words, &mut shelf, &mut out).number())
 }

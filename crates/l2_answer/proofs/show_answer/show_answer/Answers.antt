@@ -1,6 +1,6 @@
 use Rattle.l2_program.specs.Programs.{program_tree}
 use Rattle.l2_answer.specs.Shows.{ShowsProgram}
-use Rattle.l2_answer.proofs.Texts.{of_program, of_fault}
+use Rattle.l2_status.proofs.Texts.{of_program, of_fault}
 use Rattle.l2_answer.proofs.show_answer.show_answer.Goals as goal
 
 pub returns-in-Ok : goal.returns-in-Ok

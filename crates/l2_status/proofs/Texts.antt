@@ -5,9 +5,9 @@ use Rattle.l2_syntax.specs.declared.refusal.TextFault.TheVariants as fault
 use Rattle.l2_program.specs.Programs.{ProgramTree}
 use Rattle.l2_parse_unit.specs.Reading.{OnRefusal}
 use Rattle.l2_front.specs.Programs.{IsProgram, IsNoProgram, IsRefusalOf}
-use Rattle.l2_answer.specs.declared.status.Status.{Status}
-use Rattle.l2_answer.specs.declared.status.Answer.{Answer}
-use Rattle.l2_answer.specs.Texts.{OfText, taken, refused, IsRefused}
+use Rattle.l2_status.specs.declared.status.Status.{Status}
+use Rattle.l2_status.specs.declared.status.Answer.{Answer}
+use Rattle.l2_status.specs.Texts.{OfText, taken, refused, IsRefused}
 
 pub of_program : {E : Type 0} (text : List ℕ) (ComesTo : ProgramTree → Status → List ℕ → Type 0) (p : ProgramTree) → IsProgram text p →
     (r : Result Answer E) → IfOk r (λ a. ComesTo p a.status a.output.items) → IfOk r (λ a. OfText text ComesTo a.status a.output.items)

@@ -5,9 +5,9 @@ use Rattle.l2_syntax.specs.declared.refusal.TextFault.{TextFault}
 use Rattle.l2_syntax.specs.declared.refusal.TextFault.TheVariants as fault
 use Rattle.l2_program.specs.Programs.{ProgramTree}
 use Rattle.l2_front.specs.Programs.{IsProgram, IsNoProgram, IsRefusalOf}
-use Rattle.l2_answer.specs.declared.status.Status.{Status}
-use Rattle.l2_answer.specs.declared.status.Status.TheVariants.{Refused}
-use Rattle.l2_answer.specs.Printed.{refusal_line}
+use Rattle.l2_status.specs.declared.status.Status.{Status}
+use Rattle.l2_status.specs.declared.status.Status.TheVariants.{Refused}
+use Rattle.l2_status.specs.Printed.{refusal_line}
 
 -- the text's program comes to this status and this output, or the text is refused
 pub data OfText (text : List ℕ) (ComesTo : ProgramTree → Status → List ℕ → Type 0) (status : Status) (output : List ℕ) : Type 0 where

@@ -1,7 +1,6 @@
 ghost use Rattle.std.specs.Prelude.{◌≡◌, IfOk};
-ghost use Rattle.l2_answer.specs.Statuses.{status_number, status_of};
+ghost use Rattle.l2_status.specs.Statuses.{status_number};
 
-use l2_runs::Outcome;
 use std::alloc::{AllocError, Global};
 
 /// How a run ends.
@@ -51,19 +50,6 @@ pub struct Answer {
     pub status: Status,
     /// What is printed: whole lines, each with its LF.
     pub output: Vec<u8>,
-}
-
-/// The status that a replay with this outcome ends with.
-pub fn status_of(outcome: Outcome) -> Status
-    ensures { result ≡ status_of outcome }
-{
-    match outcome {
-        Outcome::Ended => Status::Fine,
-        Outcome::Stopped => Status::Fine,
-        Outcome::Broken(_) => Status::Unsafe,
-        Outcome::OutOfChoices => Status::Short,
-        Outcome::OutOfTurns => Status::Short,
-    }
 }
 
 /// An answer whose line is the same for all words and files.

@@ -1,6 +1,6 @@
 ghost use Rattle.std.specs.Prelude.{◌≡◌, IfOk};
 ghost use Rattle.l2_syntax.specs.declared.refusal.TextFault.{TextFault};
-ghost use Rattle.l2_answer.specs.Texts.{IsRefused};
+ghost use Rattle.l2_status.specs.Texts.{IsRefused};
 
 use crate::line::refusal_line;
 use crate::status::{Answer, Status};

@@ -1,0 +1,7 @@
+//! What the check of a certificate against a text ends with and prints.
+#![tactic(auto)]
+
+mod answering;
+mod line;
+
+pub use answering::check_answer;

@@ -1,0 +1,5 @@
+pub mod Rows
+pub mod Walks
+pub mod Entered
+pub mod Values
+pub mod Usage

@@ -1,0 +1,4 @@
+//! Which words are refused, and why.
+#![tactic(auto)]
+
+pub mod laws;
