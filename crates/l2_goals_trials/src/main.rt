@@ -161,7 +161,7 @@ fn said(alloc: Global, line: &[u8]) -> Result<String, AllocError> {
         return String::from_str(alloc, "no text");
     }
     let text = unescaped(alloc, &line[cut + 1..])?;
-    if line[..cut].starts_with(b"short ") {
+    if cut > 6 && line[..cut].starts_with(b"short ") {
         return of_text(alloc, &text, Asked::Short(copies(&line[6..cut])));
     }
     let certificate = unfolded(alloc, &line[..cut])?;
