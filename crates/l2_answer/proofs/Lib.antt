@@ -1,4 +1,5 @@
 pub mod Executions
+pub mod Headline
 pub mod Listed
 pub mod Made
 pub mod Requests

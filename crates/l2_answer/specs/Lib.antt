@@ -1,5 +1,6 @@
 pub mod Answers
 pub mod Generates
+pub mod Headline
 pub mod Printed
 pub mod Replays
 pub mod Shows

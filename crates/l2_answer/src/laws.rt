@@ -1,8 +1,18 @@
-// What holds of answers: a law without code.
+// What holds of answers: laws without code.
 ghost use Rattle.l2_answer.specs.Answers.{StatusLaw};
+ghost use Rattle.l2_answer.specs.Headline.{CheckedLaw};
+
+use l2_check_answer::accepted_law;
 
 /// No answer has the status of a fault of writing, or of want of memory.
 #[tactic(auto, using(crate::proofs::Statuses::answered))]
 pub fn status_law()
     ensures { StatusLaw }
 {}
+
+/// Where a run of `check` ends with status 0 the file that it read is a program, and the verdict that it printed is true of it.
+pub fn checked_law()
+    ensures { CheckedLaw }
+{
+    accepted_law();
+}

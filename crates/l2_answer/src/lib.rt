@@ -10,4 +10,4 @@ mod replay_status;
 mod show_answer;
 
 pub use answering::answer;
-pub use laws::status_law;
+pub use laws::{checked_law, status_law};

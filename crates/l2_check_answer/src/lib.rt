@@ -2,6 +2,8 @@
 #![tactic(auto)]
 
 mod answering;
+mod laws;
 mod line;
 
 pub use answering::check_answer;
+pub use laws::accepted_law;
