@@ -1,14 +1,16 @@
 // What certificates are answered, and made texts.
 use crate::trial::{asked, report, shelf};
 use std::alloc::{AllocError, Global};
+use std::marker::Sync;
+use std::thread::Threads;
 
 const ONE: &str = "int main(void){assert(1);return 0;}";
 
 const STEP: &str = "checks plain\nk 1\nloops 0\ngoals 1\ngoal 1 lines 1\n3 0 2 0\nend\n";
 
 /// What words are answered where `a.c` is this text, and `v` has these lines behind its first two.
-fn said(
-    rt: &HostRuntime,
+fn said<R: Threads + Sync + Print>(
+    rt: &R,
     alloc: Global,
     words: &[&str],
     text: &str,
@@ -21,7 +23,7 @@ fn said(
 }
 
 /// A text with a certificate that has these lines.
-fn of(rt: &HostRuntime, alloc: Global, text: &str, lines: &str) -> bool {
+fn of<R: Threads + Sync + Print>(rt: &R, alloc: Global, text: &str, lines: &str) -> bool {
     report(
         rt,
         said(rt, alloc, &["check", "a.c", "v"], text, lines, &[]),
@@ -29,7 +31,7 @@ fn of(rt: &HostRuntime, alloc: Global, text: &str, lines: &str) -> bool {
 }
 
 /// Certificates of a small text, and refusals in their order.
-pub fn certificates(rt: &HostRuntime, alloc: Global) -> bool {
+pub fn certificates<R: Threads + Sync + Print>(rt: &R, alloc: Global) -> bool {
     of(rt, alloc, ONE, STEP)
         && of(
             rt,
@@ -61,12 +63,12 @@ pub fn certificates(rt: &HostRuntime, alloc: Global) -> bool {
 }
 
 /// What words are answered where there is such a certificate, and this read fails.
-fn asks(rt: &HostRuntime, alloc: Global, words: &[&str], failing: &[u64]) -> bool {
+fn asks<R: Threads + Sync + Print>(rt: &R, alloc: Global, words: &[&str], failing: &[u64]) -> bool {
     report(rt, said(rt, alloc, words, ONE, STEP, failing))
 }
 
 /// Words, and files that aren't read.
-pub fn commands(rt: &HostRuntime, alloc: Global) -> bool {
+pub fn commands<R: Threads + Sync + Print>(rt: &R, alloc: Global) -> bool {
     asks(rt, alloc, &["check", "a.c", "v", "--jobs", "3"], &[])
         && asks(rt, alloc, &["check", "a.c", "v", "--jobs=65"], &[])
         && asks(rt, alloc, &["check", "a.c"], &[])

@@ -1,6 +1,8 @@
 // The texts, the values files and the words that are tried.
 use crate::trial::{asked, replayed, report, shelf};
 use std::alloc::{AllocError, Global};
+use std::marker::Sync;
+use std::thread::Threads;
 
 const ROW: &str = "int main(void){int x=__VERIFIER_nondet_int();assert(x!=7);return 0;}";
 
@@ -22,7 +24,7 @@ const LEAST: &str =
 const SHADOWS: &str = "int main(void){int x=1;if(x){int x=2;}return 0;}";
 
 /// A text on a values file with these lines behind its first.
-fn on(rt: &HostRuntime, alloc: Global, text: &str, lines: &str) -> bool {
+fn on<R: Threads + Sync + Print>(rt: &R, alloc: Global, text: &str, lines: &str) -> bool {
     let answer = match format!(in alloc; "2ls values 1\n{lines}") {
         Ok(values) => replayed(rt, alloc, text.as_bytes(), values.as_str()),
         Err(error) => Err(error),
@@ -31,7 +33,7 @@ fn on(rt: &HostRuntime, alloc: Global, text: &str, lines: &str) -> bool {
 }
 
 /// Programs of the small form.
-pub fn executions(rt: &HostRuntime, alloc: Global) -> bool {
+pub fn executions<R: Threads + Sync + Print>(rt: &R, alloc: Global) -> bool {
     on(rt, alloc, ROW, "turns 0\nchoice 7\nend\n")
         && on(rt, alloc, ROW, "turns 0\nchoice 6\nend\n")
         && on(rt, alloc, ROW, "turns 0\nend\n")
@@ -47,7 +49,7 @@ pub fn executions(rt: &HostRuntime, alloc: Global) -> bool {
 }
 
 /// A text that is refused.
-fn refused(rt: &HostRuntime, alloc: Global, text: &[u8]) -> bool {
+fn refused<R: Threads + Sync + Print>(rt: &R, alloc: Global, text: &[u8]) -> bool {
     report(
         rt,
         replayed(rt, alloc, text, "2ls values 1\nturns 0\nend\n"),
@@ -55,7 +57,7 @@ fn refused(rt: &HostRuntime, alloc: Global, text: &[u8]) -> bool {
 }
 
 /// Texts that are refused where reading stops, or that are beyond the small form.
-pub fn refusals(rt: &HostRuntime, alloc: Global) -> bool {
+pub fn refusals<R: Threads + Sync + Print>(rt: &R, alloc: Global) -> bool {
     refused(rt, alloc, b"int g; /*")
         && refused(rt, alloc, b"int main(void){return 08;}")
         && refused(rt, alloc, b"#define A A")
@@ -71,7 +73,12 @@ pub fn refusals(rt: &HostRuntime, alloc: Global) -> bool {
 }
 
 /// A text, with so many `(` behind it.
-fn deep(rt: &HostRuntime, alloc: Global, start: &str, depth: usize) -> Result<String, AllocError> {
+fn deep<R: Threads + Sync + Print>(
+    rt: &R,
+    alloc: Global,
+    start: &str,
+    depth: usize,
+) -> Result<String, AllocError> {
     let mut text = Vec::from_slice(alloc, start.as_bytes())?;
     for _ in 0..depth {
         text.push(b'(')?;
@@ -80,7 +87,7 @@ fn deep(rt: &HostRuntime, alloc: Global, start: &str, depth: usize) -> Result<St
 }
 
 /// Texts as long and as deep as a limit, and beyond.
-pub fn limits(rt: &HostRuntime, alloc: Global) -> bool {
+pub fn limits<R: Threads + Sync + Print>(rt: &R, alloc: Global) -> bool {
     report(rt, deep(rt, alloc, "int main(void){return ", 127))
         && report(rt, deep(rt, alloc, "int main(void){return ", 128))
         && report(rt, deep(rt, alloc, "", 1_048_576))
@@ -88,8 +95,8 @@ pub fn limits(rt: &HostRuntime, alloc: Global) -> bool {
 }
 
 /// What `replay a.c v` is answered where this read fails and the output takes so many bytes.
-fn faulty(
-    rt: &HostRuntime,
+fn faulty<R: Threads + Sync + Print>(
+    rt: &R,
     alloc: Global,
     failing: u64,
     room: usize,
@@ -100,14 +107,18 @@ fn faulty(
 }
 
 /// Faults of reading and of writing.
-pub fn faults(rt: &HostRuntime, alloc: Global) -> bool {
+pub fn faults<R: Threads + Sync + Print>(rt: &R, alloc: Global) -> bool {
     report(rt, faulty(rt, alloc, 1, 100))
         && report(rt, faulty(rt, alloc, 2, 100))
         && report(rt, faulty(rt, alloc, 3, 3))
 }
 
 /// What words are answered where `a.c` is longer than a text may be.
-fn long(rt: &HostRuntime, alloc: Global, words: &[&str]) -> Result<String, AllocError> {
+fn long<R: Threads + Sync + Print>(
+    rt: &R,
+    alloc: Global,
+    words: &[&str],
+) -> Result<String, AllocError> {
     let mut text = Vec::new(alloc);
     for _ in 0..1_048_577u32 {
         text.push(b' ')?;
@@ -117,7 +128,7 @@ fn long(rt: &HostRuntime, alloc: Global, words: &[&str]) -> Result<String, Alloc
 }
 
 /// What words are answered where there are files `a.c` and `v`.
-fn said(rt: &HostRuntime, alloc: Global, words: &[&str]) -> bool {
+fn said<R: Threads + Sync + Print>(rt: &R, alloc: Global, words: &[&str]) -> bool {
     let answer = match shelf(alloc, ROW.as_bytes(), "2ls values 1\nturns 0\nend\n", &[]) {
         Ok(mut shelf) => asked(rt, alloc, words, &mut shelf, 100),
         Err(error) => Err(error),
@@ -126,7 +137,7 @@ fn said(rt: &HostRuntime, alloc: Global, words: &[&str]) -> bool {
 }
 
 /// Words that are a command or none, and files that are missing.
-pub fn commands(rt: &HostRuntime, alloc: Global) -> bool {
+pub fn commands<R: Threads + Sync + Print>(rt: &R, alloc: Global) -> bool {
     said(rt, alloc, &[])
         && said(rt, alloc, &["replay", "a.c"])
         && said(rt, alloc, &["verify", "a.c", "v"])

@@ -4,6 +4,8 @@ use l2_outside::{Failed, MemShelf, MemSink, write_text};
 use l2_status::{Answer, Status};
 use std::alloc::{AllocError, Global};
 use std::collections::BTreeMap;
+use std::marker::Sync;
+use std::thread::Threads;
 
 /// The files `a.c` and `v`, of which the reads with these numbers fail.
 pub fn shelf(
@@ -39,8 +41,8 @@ fn delivered(alloc: Global, given: &Answer, room: usize) -> Result<String, Alloc
 }
 
 /// What words are answered.
-pub fn asked(
-    rt: &HostRuntime,
+pub fn asked<R: Threads + Sync + Print>(
+    rt: &R,
     alloc: Global,
     words: &[&str],
     shelf: &mut MemShelf,
@@ -55,8 +57,8 @@ pub fn asked(
 }
 
 /// What `replay a.c v` is answered on these contents.
-pub fn replayed(
-    rt: &HostRuntime,
+pub fn replayed<R: Threads + Sync + Print>(
+    rt: &R,
     alloc: Global,
     text: &[u8],
     values: &str,
@@ -66,7 +68,7 @@ pub fn replayed(
 }
 
 /// Prints an answer, and says whether there was one.
-pub fn report(rt: &HostRuntime, answer: Result<String, AllocError>) -> bool {
+pub fn report<R: Print>(rt: &R, answer: Result<String, AllocError>) -> bool {
     match answer {
         Ok(text) => println!(rt; "{text}").is_ok(),
         Err(_) => false,
