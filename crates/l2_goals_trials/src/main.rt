@@ -1,6 +1,5 @@
 //! Makes the formulas of texts at points, and prints their numbers of variables, clauses and goals, and a digest of all clauses. A line
-//! of the input is a certificate without goals, its lines parted by `|`, or `short` and a number of copies for the formulas of short runs,
-//! and then, behind a tab, a text, whose lines end with `\n`.
+//! of the input is a certificate without goals, its lines parted by `|`, and then, behind a tab, a text, whose lines end with `\n`.
 #![tactic(auto)]
 
 ghost use Rattle.l2_code.specs.Sets.{AllRise};
@@ -11,7 +10,6 @@ use l2_code::{Code, Sets};
 use l2_front::{Loaded, load};
 use l2_goals::{GoalError, Goals, goals_of};
 use l2_limits::TEXT_LIMIT;
-use l2_short_goals::short;
 use l2_syntax::TextFault;
 use std::alloc::{AllocError, Global};
 use std::io;
@@ -64,40 +62,20 @@ fn formulas(alloc: Global, code: &Code, sets: &Sets, cert: &Cert) -> Result<Stri
     }
 }
 
-fn shorts(alloc: Global, code: &Code, sets: &Sets, copies: u32) -> Result<String, AllocError>
-    requires { AllRise sets.now.sets }
-{
-    match short(alloc, code, sets, copies) {
-        Ok(shorts) => described(alloc, &shorts.goals),
-        Err(GoalError::TooLarge) => String::from_str(alloc, "too large"),
-        Err(GoalError::NoMemory) => Err(AllocError),
-    }
-}
-
-/// What is asked: formulas at a certificate's point, or those of short runs with so many copies.
-#[derive(Clone, Copy)]
-enum Asked<'a> {
-    Point(&'a Cert),
-    Short(u32),
-}
-
-fn of_loaded(alloc: Global, loaded: &Loaded, asked: Asked) -> Result<String, AllocError> {
+fn of_loaded(alloc: Global, loaded: &Loaded, cert: &Cert) -> Result<String, AllocError> {
     loaded.whole();
     match &loaded.code {
-        Some(code) => match asked {
-            Asked::Point(cert) => formulas(alloc, code, &loaded.sets, cert),
-            Asked::Short(copies) => shorts(alloc, code, &loaded.sets, copies),
-        },
+        Some(code) => formulas(alloc, code, &loaded.sets, cert),
         None => String::from_str(alloc, "too large"),
     }
 }
 
-fn of_text(alloc: Global, text: &[u8], asked: Asked) -> Result<String, AllocError> {
+fn of_text(alloc: Global, text: &[u8], cert: &Cert) -> Result<String, AllocError> {
     if text.len() as u64 > TEXT_LIMIT {
         return String::from_str(alloc, "too long");
     }
     match load(alloc, text) {
-        Ok(loaded) => of_loaded(alloc, &loaded, asked),
+        Ok(loaded) => of_loaded(alloc, &loaded, cert),
         Err(TextFault::At(_)) => String::from_str(alloc, "refused"),
         Err(TextFault::NoMemory) => Err(AllocError),
     }
@@ -144,29 +122,15 @@ fn tab(bytes: &[u8]) -> usize {
     bytes.len()
 }
 
-/// The number of these digits.
-fn copies(digits: &[u8]) -> u32 {
-    let mut number: u32 = 0;
-    for digit in digits {
-        number = number
-            .wrapping_mul(10)
-            .wrapping_add(u32::from(digit.wrapping_sub(b'0')));
-    }
-    number
-}
-
 fn said(alloc: Global, line: &[u8]) -> Result<String, AllocError> {
     let cut = tab(line);
     if cut >= line.len() {
         return String::from_str(alloc, "no text");
     }
-    let text = unescaped(alloc, &line[cut + 1..])?;
-    if cut > 6 && line[..cut].starts_with(b"short ") {
-        return of_text(alloc, &text, Asked::Short(copies(&line[6..cut])));
-    }
     let certificate = unfolded(alloc, &line[..cut])?;
+    let text = unescaped(alloc, &line[cut + 1..])?;
     match read(alloc, &certificate) {
-        Ok(cert) => of_text(alloc, &text, Asked::Point(&cert)),
+        Ok(cert) => of_text(alloc, &text, &cert),
         Err(CertError::BadLine { line }) => format!(in alloc; "bad line {line}"),
         Err(CertError::NoMemory) => Err(AllocError),
     }
