@@ -1,6 +1,6 @@
 -- Where no fault is found, a command was entered, and its arguments have their values.
 use Rattle.std.proofs.Common.{◌≡◌, Bool, true, false, List, [], ◌∷◌, Option, Some, None, refl, subst}
-use Rattle.std.specs.Prelude.{is_some, find, not, ◌&&◌, if◌then◌else◌, option_map}
+use Rattle.std.specs.Prelude.{is_some, find, if◌then◌else◌, option_map}
 use Rattle.std.specs.Option.{option_map_or}
 use Rattle.std.specs.List.{list_all}
 use Rattle.clap.specs.Kinds.{Kinds, or_else, check_kinds}

@@ -1,10 +1,10 @@
 -- Words ask for nothing exactly where they are refused.
-use Rattle.std.proofs.Common.{◌≡◌, ◌≢◌, inl, inr, true, List, [], ◌∷◌, Option, Some, None, refl, codes, ap, ◌∙◌, sym, subst}
+use Rattle.std.proofs.Common.{◌≡◌, inl, inr, true, List, [], ◌∷◌, Option, None, refl, codes, ap, ◌∙◌, sym, subst}
 use Rattle.std.specs.Prelude.{option_map}
 use Rattle.clap.specs.Words.{Text, Row, Kinds, subcommand_of, built}
 use Rattle.clap.proofs.OnLiterals.{clap_on_literals}
 use Rattle.l2_words.specs.Line.{twols_app, faults}
-use Rattle.l2_words.specs.Requests.{Request, Verify, Termination, request_in, request_entered, request_where, command, deciding_in}
+use Rattle.l2_words.specs.Requests.{Verify, Termination, request_in, request_entered, request_where, command, deciding_in}
 use Rattle.l2_words_laws.specs.Usage.{HasBadValue, unwind, domain, jobs, what, seed, loops, IsRefused, faulty, out_of_form, UsageLaw}
 use Rattle.l2_words_laws.proofs.Entered.{EachShape, Is, Enters, entered_so}
 use Rattle.l2_words_laws.proofs.Values.{mapped, deciding_bad, check_bad, replay_bad, show_bad, generate_bad, no_unwind, no_domain, no_jobs, no_what, no_seed, no_loops}

@@ -1,5 +1,5 @@
 -- Commands whose arguments have values: where no request is read of these, one is out of form.
-use Rattle.std.proofs.Common.{◌≡◌, ◌⊎◌, inl, inr, ℕ, Bool, true, false, List, [], ◌∷◌, Option, Some, None, refl, codes, ap, ◌∙◌}
+use Rattle.std.proofs.Common.{◌≡◌, ◌⊎◌, inl, inr, true, false, List, Option, Some, None, refl, codes, ap, ◌∙◌}
 use Rattle.std.specs.Prelude.{is_some, option_map, option_and_then}
 use Rattle.clap.specs.Walk.{Text, Row, first_of}
 use Rattle.l2_words.specs.Numbers.{number_between}

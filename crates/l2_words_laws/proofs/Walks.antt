@@ -10,7 +10,7 @@ use Rattle.clap.specs.declared.error.kind.ErrorKind.TheVariants as kind
 use Rattle.clap.specs.Kinds.{Kinds, or_else, range_kinds, check_kinds}
 use Rattle.clap.specs.Simple.{Shape}
 use Rattle.clap.specs.Faults.{action_fault, use_fault, settle_fault, react_fault, option_fault, long_fault, short_fault, bundle_step_fault, flags_fault, bundle_fault, flag_word_fault, other_fault, word_fault, positional_fault, step_fault, stray_fault, turn_fault, walk_fault, defaults_fault, check_fault, level_fault}
-use Rattle.clap.specs.Walk.{Text, Row, Rule, Held, Names, Outcome, done, waits, plain, Waiting, idle, option, positional, Step, next, trailing, subcommand, value, Walk, action_of, most_values, values_or_missing, takes_values, takes_several, is_empty, arg_by_id, arg_by_long, arg_by_short, arg_by_index, used, settled, reacted, option_met, flag_met, long_met, attached_value, short_met, bundle_step, bundle_met, bundle, option_word, plain_word, after_flag, long_word, short_word, short_or_plain, long_or_other, subcommand_met, subcommand_or_other, word_met, is_pending, positional_held, to_positional, after_step, walked, walked_from, walk, walk_from, finished, rows_after, nothing_held, has_long, has_short, refused, used_by_id, settled_rows}
+use Rattle.clap.specs.Walk.{Text, Row, Rule, Held, Names, Outcome, done, waits, plain, Waiting, idle, option, positional, Step, next, trailing, subcommand, value, Walk, action_of, most_values, values_or_missing, takes_values, takes_several, is_empty, arg_by_id, arg_by_long, arg_by_short, arg_by_index, used, settled, reacted, option_met, flag_met, long_met, attached_value, short_met, bundle_step, bundle_met, bundle, option_word, plain_word, after_flag, short_or_plain, long_or_other, subcommand_met, subcommand_or_other, word_met, is_pending, positional_held, to_positional, after_step, walked, walked_from, walk, walk_from, finished, rows_after, nothing_held, has_long, has_short, refused, used_by_id, settled_rows}
 use Rattle.l2_words_laws.proofs.Rows.{IsFull, AreFull, GivesValue, used_full, HaveValues, have_values, all_given, defaults_full, defaults_there}
 
 pub parts : (a b : Kinds) → or_else a b ≡ [] → (a ≡ []) × (b ≡ [])

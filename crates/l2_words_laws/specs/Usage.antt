@@ -1,5 +1,5 @@
 -- Which words are refused, and why.
-use Rattle.std.specs.Prelude.{◌≡◌, ◌≢◌, ◌⊎◌, ℕ, List, [], Option, Some, None, codes}
+use Rattle.std.specs.Prelude.{◌≡◌, ◌≢◌, ◌⊎◌, List, [], Option, Some, None, codes}
 use Rattle.clap.specs.Words.{Text, Row, first_of, subcommand_of}
 use Rattle.l2_words.specs.Line.{twols_app, faults}
 use Rattle.l2_words.specs.Numbers.{number_between}

@@ -1,14 +1,15 @@
-use Rattle.std.proofs.Common.{ap, ◌∙◌, refl, subst}
-use Rattle.l2_outside.specs.Outside.{grown, GrewByPrefix}
-use Rattle.l2_answer.specs.Answers.{whole, cut_off}
+use Rattle.std.proofs.Common.{subst}
+use Rattle.l2_words.specs.Line.{texts}
+use Rattle.l2_answer.specs.Answers.{Prints}
 use Rattle.twols.proofs.run.run.Goals as goal
 
-pub returns-in-Ok-write_text-clause-prints : goal.returns-in-Ok-write_text-clause-prints
-returns-in-Ok-write_text-clause-prints g c =
-    whole c.in-Ok.answer.output.items c.in-Ok.ensures.answers
-    (c.in-Ok-write_text.ensures.ok ∙ ap (λ bytes. grown (g.K.Sink.written c.args.out.now) bytes) c.as_slice.ensures.value)
-
-pub returns-clause-prints : goal.returns-clause-prints
-returns-clause-prints g c =
-    cut_off c.in-Ok.answer.status c.in-Ok.answer.output.items c.in-Ok.ensures.answers refl
-    (subst (λ text. GrewByPrefix (g.K.Sink.written c.args.out.now) (g.K.Sink.written c.write_text.new.out) text) c.as_slice.ensures.value c.in-Err.ensures.prefix)
+pub returns-clause-checked : goal.returns-clause-checked
+returns-clause-checked g c = λ file certificate jobs asks fine.
+    let files = g.H.Shelf.files c.args.shelf.now in
+    let before = g.H.Shelf.read_faults c.args.shelf.now in
+    let now = g.H.Shelf.read_faults c.printed.new.shelf in
+    let words = texts c.args.words.now in
+    let old = g.K.Sink.written c.args.out.now in
+    let new = g.K.Sink.written c.printed.new.out in
+    c.checked_law.ensures files before now words old new file certificate jobs asks
+    (subst (λ s. Prints files before now words s old new) fine c.printed.ensures.prints)
