@@ -1,0 +1,14 @@
+//! Questions about the rows of points, each asked of the formulas of a program's code by a new solver.
+#![tactic(auto)]
+
+mod cut;
+mod engine;
+mod fitting;
+mod indexes;
+mod points;
+mod questions;
+mod tells;
+
+pub use cut::Cut;
+pub use engine::RowEngine;
+pub use questions::breaks_check;
