@@ -5,3 +5,4 @@ pub mod Printed
 pub mod Replays
 pub mod Shows
 pub mod Statuses
+pub mod Stores

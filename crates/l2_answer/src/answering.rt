@@ -1,14 +1,16 @@
-ghost use Rattle.std.specs.Prelude.{◌≡◌, ◌≤◌, IfOk, Some, List, ℕ, codes};
-ghost use Rattle.l2_outside.specs.Outside.{Rose};
+ghost use Rattle.std.specs.Prelude.{◌≡◌, ◌≤◌, IfOk, Some, None, List, ℕ, codes};
 ghost use Rattle.l2_words.specs.Line.{texts};
 ghost use Rattle.l2_request.specs.Requests.{Check, Replay, Show, command};
-ghost use Rattle.l2_answer.specs.Answers.{Answers, IsUnread};
+ghost use Rattle.l2_answer.specs.Answers.{Answers, Tells};
 
+use crate::deciding::answer_decision;
 use crate::generate_answer::generate_answer;
 use crate::replay_answer::replay_answer;
 use crate::show_answer::show_answer;
+use crate::told::{Told, alone};
+use crate::unread::unread;
 use l2_check_answer::check_answer;
-use l2_inputs::{InputError, read_one, read_two};
+use l2_inputs::{read_one, read_two};
 use l2_outside::Shelf;
 use l2_request::{Request, certificate_file, command, text, values_file};
 use l2_status::{Answer, Status, fixed};
@@ -16,17 +18,6 @@ use l2_words::{View, WordsError};
 use std::alloc::{AllocError, Global};
 use std::marker::Sync;
 use std::thread::Threads;
-
-/// The answer where a request's files were not read.
-fn unread(alloc: Global, error: InputError) -> Result<Answer, AllocError>
-    ensures { IfOk result (λ a. IsUnread error a.status a.output.items) }
-{
-    match error {
-        InputError::Fault => fixed(alloc, Status::ReadFault, "READ FAULT\n"),
-        InputError::TooLong => fixed(alloc, Status::TooLong, "TOO LONG\n"),
-        InputError::NoMemory => Err(AllocError),
-    }
-}
 
 /// The answer of `replay FILE VALUES`.
 fn answer_replay<H: Shelf>(
@@ -36,7 +27,7 @@ fn answer_replay<H: Shelf>(
     shelf: &mut H,
 ) -> Result<Answer, AllocError>
     ensures answers { (words : List (List ℕ)) → command words ≡ Some (Replay file.now values.now) →
-        IfOk result (λ a. Answers (H.files shelf.old) (H.read_faults shelf.old) (H.read_faults shelf.new) words a.status a.output.items) }
+        IfOk result (λ a. Answers (H.files shelf.old) (H.read_faults shelf.old) (H.read_faults shelf.new) words a.status a.output.items None) }
     ensures files { H.files shelf.new ≡ H.files shelf.old }
     ensures read_faults { H.read_faults shelf.old ≤ H.read_faults shelf.new }
     ensures write_faults { H.write_faults shelf.new ≡ H.write_faults shelf.old }
@@ -55,7 +46,7 @@ fn answer_show<H: Shelf>(
     shelf: &mut H,
 ) -> Result<Answer, AllocError>
     ensures answers { (words : List (List ℕ)) → command words ≡ Some (Show view file.now) →
-        IfOk result (λ a. Answers (H.files shelf.old) (H.read_faults shelf.old) (H.read_faults shelf.new) words a.status a.output.items) }
+        IfOk result (λ a. Answers (H.files shelf.old) (H.read_faults shelf.old) (H.read_faults shelf.new) words a.status a.output.items None) }
     ensures files { H.files shelf.new ≡ H.files shelf.old }
     ensures read_faults { H.read_faults shelf.old ≤ H.read_faults shelf.new }
     ensures write_faults { H.write_faults shelf.new ≡ H.write_faults shelf.old }
@@ -76,7 +67,7 @@ fn answer_check<R: Threads + Sync, H: Shelf>(
     shelf: &mut H,
 ) -> Result<Answer, AllocError>
     ensures answers { (words : List (List ℕ)) → command words ≡ Some (Check file.now certificate.now jobs) →
-        IfOk result (λ a. Answers (H.files shelf.old) (H.read_faults shelf.old) (H.read_faults shelf.new) words a.status a.output.items) }
+        IfOk result (λ a. Answers (H.files shelf.old) (H.read_faults shelf.old) (H.read_faults shelf.new) words a.status a.output.items None) }
     ensures files { H.files shelf.new ≡ H.files shelf.old }
     ensures read_faults { H.read_faults shelf.old ≤ H.read_faults shelf.new }
     ensures write_faults { H.write_faults shelf.new ≡ H.write_faults shelf.old }
@@ -87,31 +78,39 @@ fn answer_check<R: Threads + Sync, H: Shelf>(
     }
 }
 
-/// The answer to the words behind the program's name. `rt` is there to check goals in parallel; no answer depends on it.
-pub fn answer<R: Threads + Sync, H: Shelf>(
+/// What is told of the words behind the program's name. `rt` is there to check goals in parallel; no answer depends on it.
+pub fn answer<'a, R: Threads + Sync, H: Shelf>(
     rt: &R,
     alloc: Global,
-    words: &[String],
+    words: &'a [String],
     shelf: &mut H,
-) -> Result<Answer, AllocError>
-    ensures answers { IfOk result (λ a. Answers (H.files shelf.old) (H.read_faults shelf.old) (H.read_faults shelf.new)
-        (texts words.now) a.status a.output.items) }
+) -> Result<Told<'a>, AllocError>
+    ensures answers { IfOk result (λ t. Tells (H.files shelf.old) (H.read_faults shelf.old) (H.read_faults shelf.new) (texts words.now) t) }
     ensures files { H.files shelf.new ≡ H.files shelf.old }
     ensures read_faults { H.read_faults shelf.old ≤ H.read_faults shelf.new }
     ensures write_faults { H.write_faults shelf.new ≡ H.write_faults shelf.old }
 {
     match command(alloc, words) {
-        Ok(Request::Replay { file, values }) => answer_replay(alloc, file, values, shelf),
-        Ok(Request::Show { view, file }) => answer_show(alloc, view, file, shelf),
+        Ok(
+            Request::Decide {
+                mode,
+                file,
+                unwind,
+                domain,
+                certificate,
+            },
+        ) => answer_decision(alloc, mode, file, unwind, domain, certificate, shelf),
+        Ok(Request::Replay { file, values }) => alone(answer_replay(alloc, file, values, shelf)),
+        Ok(Request::Show { view, file }) => alone(answer_show(alloc, view, file, shelf)),
         Ok(
             Request::Check {
                 file,
                 certificate,
                 jobs,
             },
-        ) => answer_check(rt, alloc, file, certificate, jobs, shelf),
-        Ok(Request::Generate { seed, loops }) => generate_answer(alloc, seed, loops),
-        Err(WordsError::Usage) => fixed(alloc, Status::Usage, "USAGE\n"),
+        ) => alone(answer_check(rt, alloc, file, certificate, jobs, shelf)),
+        Ok(Request::Generate { seed, loops }) => alone(generate_answer(alloc, seed, loops)),
+        Err(WordsError::Usage) => alone(fixed(alloc, Status::Usage, "USAGE\n")),
         Err(WordsError::NoMemory) => Err(AllocError),
     }
 }

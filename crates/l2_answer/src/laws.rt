@@ -1,6 +1,6 @@
 // What holds of answers: laws without code.
 ghost use Rattle.l2_answer.specs.Answers.{StatusLaw};
-ghost use Rattle.l2_answer.specs.Headline.{CheckedLaw};
+ghost use Rattle.l2_answer.specs.Headline.{CheckedLaw, TerminatedLaw, VerifiedLaw};
 
 use l2_check_answer::accepted_law;
 
@@ -15,4 +15,18 @@ pub fn checked_law()
     ensures { CheckedLaw }
 {
     accepted_law();
+}
+
+/// Where a run of `verify` ends with status 0 or 10 what it prints is true of the program that it read.
+pub fn verified_law()
+    ensures { VerifiedLaw }
+{
+    l2_verify_answer::verified_law();
+}
+
+/// Where a run of `termination` ends with status 0 what it prints is true of the program that it read.
+pub fn terminated_law()
+    ensures { TerminatedLaw }
+{
+    l2_verify_answer::terminated_law();
 }

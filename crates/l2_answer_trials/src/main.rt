@@ -2,6 +2,7 @@
 #![tactic(auto)]
 
 mod checks;
+mod decisions;
 mod rows;
 mod shows;
 mod trial;
@@ -19,6 +20,7 @@ fn main(rt: HostRuntime) -> ExitCode {
         && shows::refusals(&rt, alloc)
         && shows::commands(&rt, alloc)
         && checks::certificates(&rt, alloc)
-        && checks::commands(&rt, alloc);
+        && checks::commands(&rt, alloc)
+        && decisions::verdicts(&rt, alloc);
     ExitCode::from(u8::from(!all))
 }

@@ -1,6 +1,6 @@
 // What is answered over files in memory, and how it is printed.
-use l2_answer::answer;
-use l2_outside::{Failed, MemShelf, MemSink, write_text};
+use l2_answer::{Stored, answer};
+use l2_outside::{Failed, MemShelf, MemSink, Shelf, write_text};
 use l2_status::{Answer, Status};
 use std::alloc::{AllocError, Global};
 use std::collections::BTreeMap;
@@ -40,6 +40,14 @@ fn delivered(alloc: Global, given: &Answer, room: usize) -> Result<String, Alloc
     }
 }
 
+/// Writes what is to be stored, and says whether this was done.
+fn stored(alloc: Global, stored: &Option<Stored<'_>>, shelf: &mut MemShelf) -> bool {
+    match stored {
+        None => true,
+        Some(file) => shelf.write(alloc, file.name, file.bytes.as_slice()).is_ok(),
+    }
+}
+
 /// What words are answered.
 pub fn asked<R: Threads + Sync + Print>(
     rt: &R,
@@ -52,8 +60,11 @@ pub fn asked<R: Threads + Sync + Print>(
     for word in words {
         all.push(String::from_str(alloc, word)?)?;
     }
-    let given = answer(rt, alloc, &all, shelf)?;
-    delivered(alloc, &given, room)
+    let told = answer(rt, alloc, &all, shelf)?;
+    if !stored(alloc, &told.stored, shelf) {
+        return format!(in alloc; "{} {:?}", Status::WriteFault.number(), "");
+    }
+    delivered(alloc, &told.answer, room)
 }
 
 /// What `replay a.c v` is answered on these contents.

@@ -53,6 +53,7 @@ fitted (Fitting t) p (Of Void x) s = unfit p s
 
 -- the arguments of a name that always fails aren't evaluated
 abbrev pub fails : Option Meaning → Bool
+fails (Some (meaning.Builtin name.ReachError)) = true
 fails (Some (meaning.Builtin name.Fail)) = true
 fails (Some (meaning.Builtin name.AssertFail)) = true
 fails _ = false
@@ -75,6 +76,7 @@ builtin name.Assert p count xs s =
 builtin name.Assume p count xs s = no_value (Assume (last_of xs)) (unless_right (count == 1) p s)
 builtin name.Exit p count xs s = no_value (Exit (last_of xs)) (unless_right (count == 1) p s)
 builtin name.Abort p count xs s = no_value Abort (unless_right (count == 0) p s)
+builtin name.ReachError p count xs s = next (checked (Some Assertion) p s) (λ c t. no_value (Fail c) (unless_right (count == 0) p t))
 builtin name.Fail p count xs s = next (checked (Some Assertion) p s) (λ c t. no_value (Fail c) (unless_right (count == 0) p t))
 builtin name.AssertFail p count xs s = next (checked (Some Assertion) p s) (λ c t. no_value (Fail c) (unless_right (count == 4) p t))
 builtin (name.Choice k) p count xs s = integer k (Choice (type_of_scalar k)) (unless_right (count == 0) p s)

@@ -80,6 +80,7 @@ pub fn fails(meaning: Option<Meaning>) -> bool
     ensures { result ≡ fails meaning }
 {
     match meaning {
+        Some(Meaning::Builtin(Builtin::ReachError)) => true,
         Some(Meaning::Builtin(Builtin::Fail)) => true,
         Some(Meaning::Builtin(Builtin::AssertFail)) => true,
         _ => false,
@@ -148,7 +149,7 @@ fn builtin(
             unless_right(table, count == 0, place)?;
             no_value(alloc, Typed::Abort)
         }
-        Builtin::Fail => {
+        Builtin::ReachError | Builtin::Fail => {
             let check = table.checked(Some(Kind::Assertion), place)?;
             unless_right(table, count == 0, place)?;
             no_value(alloc, Typed::Fail(check))

@@ -13,7 +13,7 @@ use Rattle.l2_cnf.proofs.Derivations.{Contains-map, Contains-unmap}
 use Rattle.l2_watch.specs.Past.{IsReason}
 use Rattle.l2_watch.specs.Board.{Board, IsBoard}
 use Rattle.l2_cdcl.specs.Analysis.{AreUnmarked, IsFalseBefore, IsOpen, IsMore, HasVariable, IsLeft, IsPoint}
-use Rattle.l2_cdcl.specs.Chain.{Chain, IsLater}
+use Rattle.l2_cdcl.specs.Chain.{Chain, IsLater, IsResolved}
 use Rattle.l2_cdcl.specs.Level.{IsPresent}
 use Rattle.l2_cdcl.proofs.Analyses.{open_end, open_others, open_rest, open_left, cause_zero, cause_some}
 use Rattle.l2_cdcl.proofs.Targets.{later_false, point_over}
@@ -89,21 +89,27 @@ chain_point clauses trail low start k marks aside numbers none chain = Chain-mor
 
 -- the hints of the clause that is learnt, whose variables aren't those that were resolved
 pub chain_leads : (clauses : List (List ℤ)) (trail : List ℤ) (low k : ℕ) (aside : List ℤ) (u : ℤ) (hints : List ℕ) → low ≡ 0 → AreApart trail → k < length trail → ((m : ℤ) → Contains aside m → IsFalseBefore trail k m) → get_or trail k (pos 0) ≡ neg_ℤ u
-    → Chain clauses (IsLeft trail low k aside) (IsLater trail k) hints → Leads clauses (map neg_ℤ (aside ++ u ∷ [])) hints
+    → Chain clauses (IsLeft trail low k aside) (IsResolved trail k aside) hints → Leads clauses (map neg_ℤ (aside ++ u ∷ [])) hints
 unfolding Chain
 chain_leads clauses trail low k aside u hints none apart within below at chain =
     let clause : List ℤ = aside ++ u ∷ [] in
+    -- a literal that was resolved has none of these variables
+    let clash : (i j : ℕ) (l m : ℤ) → i < j → j < length trail → get_or trail i (pos 0) ≡ neg_ℤ (neg_ℤ m) → get_or trail j (pos 0) ≡ l → nat_abs m ≡ nat_abs l → ⊥ = λ i j l m f c g e same. apart i j f c (ap nat_abs (g ∙ neg_ℤ-neg_ℤ m) ∙ same ∙ ap nat_abs (sym e)) in
     chain (map neg_ℤ clause)
     (λ m left. elim left [
       | inl e ↦ Contains-map clause m (subst (Contains clause) (sym (neg_ℤ-neg_ℤ u) ∙ ap neg_ℤ (sym at) ∙ sym e) (Contains-push aside u))
       | inr (inl put) ↦ Contains-map clause m (Contains-append_left aside (u ∷ []) m put)
       | inr (inr (j, b, e)) ↦ absurd (omega (arith, b, none))
     ])
-    (λ l (j, b, c, e) m h same.
-    let clash : (i : ℕ) → i ≤ k → get_or trail i (pos 0) ≡ neg_ℤ (neg_ℤ m) → ⊥ = λ i f g. apart i j (omega (arith, f, b)) c (ap nat_abs (g ∙ neg_ℤ-neg_ℤ m) ∙ same ∙ ap nat_abs (sym e)) in
-    elim (Contains-push_cases aside u (neg_ℤ m) (Contains-unmap clause m h)) [
-      | inl put ↦ (let there = below (neg_ℤ m) put in clash there.0 (omega (arith, there.1)) there.2)
-      | inr s ↦ clash k (omega arith) (at ∙ ap neg_ℤ s)
+    (λ l resolved m h same. elim (Contains-push_cases aside u (neg_ℤ m) (Contains-unmap clause m h)) [
+      | inl put ↦ elim resolved [
+        | inl (j, b, c, e) ↦ (let there = below (neg_ℤ m) put in clash there.0 j l m (omega (arith, there.1, b)) c there.2 e same)
+        | inr (j, b, e, none_of) ↦ none_of (neg_ℤ m) put (nat_abs-neg_ℤ m ∙ same)
+      ]
+      | inr s ↦ elim resolved [
+        | inl (j, b, c, e) ↦ clash k j l m b c (at ∙ ap neg_ℤ s) e same
+        | inr (j, b, e, none_of) ↦ apart j k b within (ap nat_abs e ∙ sym same ∙ sym (ap nat_abs (at ∙ ap neg_ℤ s ∙ neg_ℤ-neg_ℤ m)))
+      ]
     ])
 
 -- what made a literal true where nothing was decided
@@ -121,7 +127,7 @@ known_within n clauses v within (clause, there, (m, stands, e)) = omega (arith, 
 
 -- the step by which the clause of a point is learnt
 pub point_step : (b : Board) (low start k n : ℕ) (aside clause : List ℤ) (u : ℤ) (hints : List ℕ) → IsBoard b → IsPresent b low start → IsPoint b.clauses b.past.literals low start k aside → u ≡ neg_ℤ (get_or b.past.literals k (pos 0)) → clause ≡ aside ++ u ∷ [] → low ≡ 0 → AllWithin n b.clauses
-    → Chain b.clauses (IsLeft b.past.literals low k aside) (IsLater b.past.literals k) hints → IsStep b.clauses n (length b.clauses + 1) clause hints
+    → Chain b.clauses (IsLeft b.past.literals low k aside) (IsResolved b.past.literals k aside) hints → IsStep b.clauses n (length b.clauses + 1) clause hints
 point_step b low start k n aside clause u hints is present point e same none within chain =
     let trail = b.past.literals in
     let at : get_or trail k (pos 0) ≡ neg_ℤ u = sym (neg_ℤ-neg_ℤ _) ∙ ap neg_ℤ (sym e) in

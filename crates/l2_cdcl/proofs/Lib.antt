@@ -3,6 +3,7 @@ pub mod Analyses
 pub mod Stamps
 pub mod Targets
 pub mod Chains
+pub mod Shortenings
 pub mod Roots
 pub mod Learnings
 pub mod Logs

@@ -1,5 +1,5 @@
 -- The hints of a clause that is learnt, while a conflict is traced back: reasons, and then the clause of the conflict.
-use Rattle.std.specs.Prelude.{◌≡◌, ℕ, ◌<◌, ◌≤◌, ℤ, pos, neg_ℤ, nat_abs, Bool, List, Contains, length, slice_index_or}
+use Rattle.std.specs.Prelude.{◌≡◌, ◌≢◌, ◌⊎◌, ℕ, ◌<◌, ◌≤◌, ℤ, pos, neg_ℤ, nat_abs, Bool, List, Contains, length, slice_index_or}
 use Rattle.l2_cnf.specs.Steps.{IsUnset, Leads}
 use Rattle.l2_cdcl.specs.Analysis.{IsMarked, IsFalseBefore}
 
@@ -21,3 +21,7 @@ IsFrom trail k l = (j : ℕ) × (k ≤ j) × (j < length trail) × (slice_index_
 -- a literal became false before this place, and its variable is marked
 abbrev pub IsMarkedBefore : List ℤ → ℕ → List Bool → ℤ → Type 0
 IsMarkedBefore trail end marks m = (IsFalseBefore trail end m) × (IsMarked marks (nat_abs m))
+
+-- a literal was resolved: it became true behind k, or before it, and no literal that was put aside has its variable
+abbrev pub IsResolved : List ℤ → ℕ → List ℤ → ℤ → Type 0
+IsResolved trail k aside l = (IsLater trail k l) ⊎ ((j : ℕ) × (j < k) × (slice_index_or trail j (pos 0) ≡ l) × ((m : ℤ) → Contains aside m → nat_abs m ≢ nat_abs l))

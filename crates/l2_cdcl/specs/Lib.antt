@@ -3,6 +3,7 @@ pub mod Analysis
 pub mod Level
 pub mod Log
 pub mod Chain
+pub mod Shortening
 pub mod Target
 pub mod Learning
 pub mod Search

@@ -1,10 +1,10 @@
-ghost use Rattle.std.specs.Prelude.{◌≡◌, ◌≢◌, ◌⊎◌, ◌≤◌, ◌<◌, ◌+◌, ◌-◌, [], ℕ, ℤ, pos, neg_ℤ, nat_abs, Bool, true, List, length, reverse, Contains, slice_index_or, OnOk, IfOk, MatchOption};
+ghost use Rattle.std.specs.Prelude.{◌≡◌, ◌≢◌, ◌⊎◌, ◌≤◌, ◌<◌, ◌+◌, ◌-◌, [], ℕ, ℤ, pos, neg_ℤ, nat_abs, Bool, true, List, length, reverse, Contains, slice_index_or, OnOk, IfOk, MatchOption, None};
 ghost use Rattle.std.specs.Bool.{OnTrue};
 ghost use Rattle.l2_cnf.specs.Trail.{AreOver};
 ghost use Rattle.l2_watch.specs.Visit.{AreFalse};
 ghost use Rattle.l2_watch.specs.Past.{IsReason};
 ghost use Rattle.l2_watch.specs.Board.{start_of, AreCaused};
-ghost use Rattle.l2_cdcl.specs.Analysis.{IsMarked, AreUnmarked, IsFalseBefore, IsOpen, IsAside, IsMore, IsTraced, IsLeft, IsPoint};
+ghost use Rattle.l2_cdcl.specs.Analysis.{IsMarked, AreUnmarked, IsFalseBefore, IsOpen, IsAside, IsMore, HasVariable, IsTraced, IsLeft, IsPoint};
 ghost use Rattle.l2_cdcl.specs.Chain.{Chain, IsLater};
 ghost use Rattle.l2_cdcl.specs.Level.{IsPresent};
 
@@ -72,7 +72,7 @@ fn mark_one(
 
 /// Marks the variables of a clause's literals but one. The others are false. It answers how many literals of the present level
 /// were marked.
-fn mark_others(
+pub fn mark_others(
     watch: &Watch,
     marks: &mut Marks,
     order: &mut Order,
@@ -188,6 +188,8 @@ fn resolve(
     ensures next { IfOk result (λ o. MatchOption o
         (IsPoint watch.now.clauses watch.now.past.literals at.low at.start traced.place aside.new.items)
         (λ t. (t.place < traced.place) × IsTraced watch.now.clauses watch.now.past.literals at.low at.start t.place marks.new aside.new.items)) }
+    ensures put { IfOk result (λ o. o ≡ None → IsAside watch.now.past.literals at.low at.start marks.new aside.new.items) }
+    ensures known { IfOk result (λ o. o ≡ None → (v : ℕ) → IsMarked marks.new v → HasVariable watch.now.clauses v) }
     ensures chain { IfOk result (λ o. hints.old.kept ≡ true → MatchOption o
         (Chain watch.now.clauses (IsLeft watch.now.past.literals at.low traced.place aside.new.items) (IsLater watch.now.past.literals traced.place) (reverse hints.new.numbers))
         (λ t. Chain watch.now.clauses (IsOpen watch.now.past.literals at.low at.start (t.place + 1) marks.new aside.new.items) (IsLater watch.now.past.literals t.place) (reverse hints.new.numbers))) }
@@ -248,6 +250,8 @@ pub fn analyse(
     ensures len { length marks.new ≡ length marks.old }
     ensures kept { hints.new.kept ≡ hints.old.kept }
     ensures chain { IfOk result (λ k. hints.old.kept ≡ true → Chain watch.now.clauses (IsLeft watch.now.past.literals at.low k aside.new.items) (IsLater watch.now.past.literals k) (reverse hints.new.numbers)) }
+    ensures put { OnOk result (IsAside watch.now.past.literals at.low at.start marks.new aside.new.items) }
+    ensures known { OnOk result ((v : ℕ) → IsMarked marks.new v → HasVariable watch.now.clauses v) }
     ensures point { IfOk result (λ k. IsPoint watch.now.clauses watch.now.past.literals at.low at.start k aside.new.items) }
 {
     let mut traced = begin(watch, marks, order, at, conflict, aside, hints)?;

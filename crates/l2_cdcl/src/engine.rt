@@ -12,13 +12,15 @@ ghost use Rattle.l2_cdcl.specs.Log.{greatest_of};
 ghost use Rattle.l2_cdcl.specs.Search.{Search, AreAssumed, IsTurn, IsReady};
 ghost use Rattle.l2_cdcl.specs.Searched.{IsSearch, IsSearched, IsVerdict};
 
-use crate::analysis::{Aside, Bounds, analyse};
+use crate::analysis::{Aside, Bounds};
 use crate::answer::Core;
 use crate::hints::Hints;
 use crate::log::Log;
 use crate::marks::Marks;
 use crate::model::assignment_of;
+use crate::redundant::Notes;
 use crate::root::root_hints;
+use crate::shorten::trace;
 use crate::target::{Target, aim};
 use l2_cnf::{Assignment, ClauseList, Lines, Lit};
 use l2_order::Order;
@@ -48,6 +50,7 @@ pub struct Engine {
     watch: Watch,
     learnt_at: Vec<u64>,
     marks: Marks,
+    notes: Notes,
     order: Order,
     refuted: bool,
     log: Log,
@@ -77,6 +80,7 @@ impl Engine {
             watch: Watch::new(alloc)?,
             learnt_at: Vec::new(alloc),
             marks: Marks::new(alloc, 1)?,
+            notes: Notes::new(alloc),
             order: Order::new(alloc),
             refuted: false,
             log: Log::new(alloc, logged),
@@ -268,6 +272,7 @@ impl Engine {
         self.watch.facts();
         let variables = self.watch.variables();
         self.order.cover(variables)?;
+        self.notes.cover(variables)?;
         if self.marks.len() as u64 <= variables {
             self.marks = Marks::new(self.alloc, variables)?;
         }
@@ -348,14 +353,18 @@ impl Engine {
             low: low_of(&self.watch, self.log.is_kept()),
             start: self.watch.start_of(level - 1),
         };
-        let point = analyse(
+        let root = self.watch.start_of(0);
+        let point = trace(
             &self.watch,
             &mut self.marks,
+            &mut self.notes,
             &mut self.order,
             at,
+            root,
             conflict,
             &mut aside,
             &mut hints,
+            self.alloc,
         )?;
         hints.turn();
         let u = self.watch.literal(point).negated();

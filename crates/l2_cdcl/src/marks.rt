@@ -45,6 +45,14 @@ impl Marks {
         self.stamps[var as usize] = self.stamp;
     }
 
+    /// Takes one mark off.
+    pub fn unmark(&mut self, var: u64)
+        requires { var < length self.old }
+        ensures { self.new ≡ slice_set self.old var false }
+    {
+        self.stamps[var as usize] = 0;
+    }
+
     /// Takes all marks off.
     pub fn clear(&mut self)
         ensures none { (v : ℕ) → ¬ IsMarked self.new v }

@@ -5,8 +5,8 @@
 ghost use Rattle.l2_code.specs.Sets.{AllRise};
 
 use l2_cert::{Cert, CertError, CertKind, read};
-use l2_cnf::{ClauseList, Lit};
 use l2_code::{Code, Sets};
+use l2_digest::digest;
 use l2_front::{Loaded, load};
 use l2_goals::{GoalError, Goals, goals_of};
 use l2_limits::TEXT_LIMIT;
@@ -14,37 +14,11 @@ use l2_syntax::TextFault;
 use std::alloc::{AllocError, Global};
 use std::io;
 
-/// A digest that goes on by one number.
-fn mixed(digest: u64, number: u64) -> u64 {
-    (digest ^ number).wrapping_mul(1_099_511_628_211)
-}
-
-fn literal_number(literal: Lit) -> u64 {
-    if literal.is_positive() {
-        literal.var()
-    } else {
-        0u64.wrapping_sub(literal.var())
-    }
-}
-
-/// The literals of each clause of a list, and a 0 behind each.
-fn list_digest(list: &ClauseList, start: u64) -> u64 {
-    let mut digest = start;
-    for i in 0..list.len() {
-        for literal in list.clause(i) {
-            digest = mixed(digest, literal_number(*literal));
-        }
-        digest = mixed(digest, 0);
-    }
-    digest
-}
-
 fn described(alloc: Global, goals: &Goals) -> Result<String, AllocError> {
     let variables = goals.variables;
     let clauses = goals.base.len();
     let count = goals.last.len();
-    let base = list_digest(&goals.base, 14_695_981_039_346_656_037);
-    let digest = list_digest(&goals.last, base);
+    let digest = digest(&goals.base, &goals.last);
     format!(in alloc; "variables {variables} clauses {clauses} goals {count} digest {digest:x}")
 }
 

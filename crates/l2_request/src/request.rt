@@ -4,12 +4,23 @@ ghost use Rattle.l2_inputs.specs.Inputs.{input_of};
 ghost use Rattle.l2_request.specs.Requests.{text, values_file, certificate_file};
 
 use l2_inputs::Input;
+use l2_kiki::Mode;
 use l2_limits::{FILE_LIMIT, TEXT_LIMIT};
-use l2_words::View;
+use l2_words::{DomainName, View};
 
 /// What a line of words asks for.
 #[derive(Clone, Copy, Debug)]
 pub enum Request<'a> {
+    /// `verify FILE`, `termination FILE`
+    Decide {
+        mode: Mode,
+        file: &'a str,
+        /// The most copies of a loop's turn.
+        unwind: u32,
+        domain: DomainName,
+        /// The file into which the certificate is written.
+        certificate: Option<&'a str>,
+    },
     /// `replay FILE VALUES`
     Replay {
         file: &'a str,

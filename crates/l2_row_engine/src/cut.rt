@@ -1,14 +1,16 @@
-ghost use Rattle.std.specs.Prelude.{◌≡◌, ◌≤◌, IfOk, None, length};
+ghost use Rattle.std.specs.Prelude.{◌≡◌, ◌≤◌, IfOk, None, length, true};
 ghost use Rattle.l2_program.specs.Programs.{program_tree};
 ghost use Rattle.l2_code.specs.Trees.{code_of};
 ghost use Rattle.l2_code.specs.Sets.{family};
-ghost use Rattle.l2_goals.specs.Formulas.{formulas};
+ghost use Rattle.l2_goals.specs.Formulas.{formulas, formulas_with};
+ghost use Rattle.l2_goals.specs.Kept.{kept_kinds};
 ghost use Rattle.l2_goals.specs.Numbers.{AreFormulas};
 ghost use Rattle.l2_row_engine.specs.Cutting.{Belongs, TellRuns};
 
 use crate::fitting::is_point_of;
 use crate::points::kinds;
 use crate::tells::goals_tell;
+use l2_blast::Fill;
 use l2_code::{Code, Sets};
 use l2_goals::{Goals, PointFill, formulas_with};
 use l2_program::Program;
@@ -71,6 +73,28 @@ impl<'a> Cut<'a> {
             sets,
             copies,
         }
+    }
+
+    /// The code of the program, whose points are asked about.
+    pub fn code(&self) -> &'a Code
+        ensures is { result.now ≡ self.now.code }
+        ensures belongs { Belongs (program_tree self.now.program) (code_of self.now.code) self.now.sets }
+        ensures some { 1 ≤ self.now.copies }
+    {
+        self.code
+    }
+
+    /// The formulas of the goals of a point, and of rankings that are filled otherwise than by lists of forms.
+    pub fn filled<F: Fill>(
+        &self,
+        alloc: Global,
+        point: &Point,
+        fill: &F,
+    ) -> Result<Goals, AllocError>
+        ensures { IfOk result (λ g. AreFormulas g (formulas_with (code_of self.now.code) (family self.now.sets) self.now.copies (kept_kinds point.now) true (F.fill fill.now))) }
+    {
+        let kinds = kinds(alloc, point)?;
+        formulas_with(alloc, self.code, self.sets, self.copies, &kinds, true, fill)
     }
 
     /// The formulas of the goals of a point over the loops' variables. The search asks about no other points; there is no answer about

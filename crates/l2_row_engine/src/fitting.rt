@@ -36,7 +36,8 @@ fn is_bound(bound: Option<i128>) -> bool
     }
 }
 
-fn is_form(vars: &[u32], form: &Form) -> bool
+/// Whether it is a form over these variables.
+pub fn is_form(vars: &[u32], form: &Form) -> bool
     ensures { OnTrue result (IsFormOf vars.now form.now) }
 {
     if !is_in(vars, form.first) {

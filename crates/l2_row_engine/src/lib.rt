@@ -11,4 +11,6 @@ mod tells;
 
 pub use cut::Cut;
 pub use engine::RowEngine;
+pub use fitting::{is_form, is_point_of};
+pub use indexes::goals_before;
 pub use questions::breaks_check;

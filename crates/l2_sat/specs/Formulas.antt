@@ -1,10 +1,11 @@
 -- What is answered about a formula: whether it can be satisfied, and whether a file shows that it can't.
-use Rattle.std.specs.Prelude.{◌≡◌, ⊤, ℕ, Bool, ℤ, Option, None, Some, List, [], ◌∷◌, ◌++◌, codes}
+use Rattle.std.specs.Prelude.{◌≡◌, ℕ, Bool, ℤ, Option, None, Some, List, codes}
 use Rattle.l2_lines.specs.Lines.{IsFirstBad, lines_of}
-use Rattle.l2_cnf.specs.Logic.{IsAbsorbed, Satisfies}
-use Rattle.l2_cnf.specs.Steps.{Step, clauses_of}
+use Rattle.l2_cnf.specs.Logic.{Satisfies}
+use Rattle.l2_cnf.specs.Steps.{Step}
 use Rattle.l2_cert.specs.Certificate.{IsGoal}
 use Rattle.l2_derivations.specs.Goals.{FailsAt, IsOpen, IsRefuted}
+use Rattle.l2_refute.specs.Refuting.{Refute}
 use Rattle.l2_derivation_file.specs.File.{IsFile as IsDerivationFile, spelling}
 use Rattle.l2_sat.specs.declared.status.SatStatus.{SatStatus}
 use Rattle.l2_sat.specs.declared.status.SatStatus.TheVariants.{Accepted, FileRefused, Satisfiable, Unsatisfiable}
@@ -14,23 +15,16 @@ use Rattle.l2_sat.specs.Texts.{model_text, numbered}
 abbrev pub HasNoModel : List (List ℤ) → Type 0
 HasNoModel formula = (a : ℕ → Bool) → ¬ Satisfies a formula
 
--- no clause of these but the last is absorbed by a formula and those before it
-abbrev pub AreNew : List (List ℤ) → List (List ℤ) → Type 0
-AreNew formula [] = ⊤
-AreNew formula (clause ∷ []) = ⊤
-AreNew formula (clause ∷ next ∷ more) = (¬ IsAbsorbed formula clause) × AreNew (formula ++ clause ∷ []) (next ∷ more)
-
 -- a file that is to be written
 pub record Written : Type 0 where
   pub name : List ℕ
   pub bytes : List ℕ
 
--- steps that show that a formula over variables up to `v` has no model: a derivation that ends with the empty clause
+-- Steps that show that a formula over variables up to `v` has no model: a derivation that ends with the empty clause, which a
+-- file can spell, and none of which but the last is absorbed.
 pub record Shows (v : ℕ) (formula : List (List ℤ)) (steps : List Step) : Type 0 where
-  pub goal : IsGoal steps
-  pub refuted : IsRefuted formula v steps
+  pub refute : Refute v formula steps
   pub none : HasNoModel formula
-  pub new : AreNew formula (clauses_of steps)
 
 -- what `solve` comes to, and what it writes to the file of this name
 pub data Solves (name : List ℕ) (v : ℕ) (formula : List (List ℤ)) (status : SatStatus) (output : List ℕ) (written : Option Written) : Type 0 where

@@ -3,4 +3,4 @@
 
 mod printing;
 
-pub use printing::loops_text;
+pub use printing::{loops_text, push_object};

@@ -25,9 +25,23 @@ fn object_name(program: &Program, number: u32) -> &[u8]
     }
 }
 
-/// `NAME#NUMBER`, behind a space.
+/// `NAME#NUMBER`.
 #[tactic(auto, using(std::proofs::Common::append_assoc))]
-fn push_object(
+pub fn push_object(
+    alloc: Global,
+    out: &mut Vec<u8>,
+    program: &Program,
+    number: u32,
+) -> Result<(), AllocError>
+    ensures { OnOk result (out.new.items ≡ out.old.items ++ object_text (program_tree program.now) number) }
+{
+    out.extend_from_slice(object_name(program, number))?;
+    out.extend_from_slice(format!(in alloc; "#{number}")?.as_bytes())
+}
+
+/// The same, behind a space.
+#[tactic(auto, using(std::proofs::Common::append_assoc))]
+fn push_next(
     alloc: Global,
     out: &mut Vec<u8>,
     program: &Program,
@@ -36,8 +50,7 @@ fn push_object(
     ensures { OnOk result (out.new.items ≡ out.old.items ++ (codes " " ++ object_text (program_tree program.now) number)) }
 {
     out.extend_from_slice(b" ")?;
-    out.extend_from_slice(object_name(program, number))?;
-    out.extend_from_slice(format!(in alloc; "#{number}")?.as_bytes())
+    push_object(alloc, out, program, number)
 }
 
 /// Objects, each behind a space.
@@ -50,7 +63,7 @@ fn push_spaced(
     ensures { OnOk result (out.new.items ≡ out.old.items ++ spaced (program_tree program.now) numbers.now) }
 {
     for i in 0..numbers.len() {
-        push_object(alloc, out, program, numbers[i])?;
+        push_next(alloc, out, program, numbers[i])?;
     }
     Ok(())
 }

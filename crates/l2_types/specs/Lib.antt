@@ -6,3 +6,4 @@ pub mod Meant
 pub mod Wants
 pub mod Switches
 pub mod Scopes
+pub mod Founds

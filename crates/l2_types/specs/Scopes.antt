@@ -36,6 +36,13 @@ is_taken s n = is_builtin (lookup s n) || has_name s.level s.scope n
 abbrev pub with_entry : ℕ → Meaning → State → State
 with_entry n m s = record s { scope = s.scope ++ record { name = n; level = s.level; meaning = m } ∷ [] }
 
+-- the level of a scope round that of the file
+abbrev pub outermost : ℕ
+outermost = 4294967295
+
+abbrev pub with_outer_entry : ℕ → Meaning → State → State
+with_outer_entry n m s = record s { scope = s.scope ++ record { name = n; level = outermost; meaning = m } ∷ [] }
+
 -- a name is declared; `redeclared` where it is taken
 abbrev pub declare : ℕ → Place → Meaning → State → State
 declare n p m s = if is_taken s n then with_fault p Redeclared s else with_entry n m s

@@ -32,6 +32,7 @@ wanted_by_builtin name.Assert count = if count == 1 then Testing else Anything
 wanted_by_builtin name.Assume count = if count == 1 then Testing else Anything
 wanted_by_builtin name.Exit count = if count == 1 then Fitting (Integer Int) else Anything
 wanted_by_builtin name.Abort count = Anything
+wanted_by_builtin name.ReachError count = Anything
 wanted_by_builtin name.Fail count = Anything
 wanted_by_builtin name.AssertFail count = Literal
 wanted_by_builtin (name.Choice k) count = Anything

@@ -16,7 +16,10 @@ pub use meant::{Meant, Operand};
 pub use operators::{
     Assigning, Class, assignment_of, can_overflow, class_of, defined_kind, step_of,
 };
-pub use state::{Builtin, Callable, Callee, Entry, Meaning, Signature, Site, TagEntry, Want};
-pub use table::{Outer, Scope, Table};
+pub use state::{
+    Builtin, Callable, Callee, CheckSite, Entry, Linked, LoopEntry, Meaning, Named, ObjectEntry,
+    Signature, Site, TagEntry, Want,
+};
+pub use table::{Found, Outer, Scope, Table};
 pub use typed::{Arithmetic, Checks, Comparison, Gives, Junction, Lvalue, Negation, Typed};
 pub use types::{CType, common, promoted, type_of_scalar};

@@ -1,5 +1,6 @@
 use crate::types::CType;
 use l2_bits::List;
+use l2_runs::Kind;
 use l2_syntax::{Place, Scalar};
 
 /// A name that means something without a declaration.
@@ -9,7 +10,8 @@ pub enum Builtin {
     Assume,
     Exit,
     Abort,
-    /// `reach_error` or `__VERIFIER_error`.
+    ReachError,
+    /// `__VERIFIER_error`.
     Fail,
     /// `__assert_fail`.
     AssertFail,
@@ -25,7 +27,10 @@ pub enum Meaning {
     Enumerator(i128),
     /// A function, by its place among the signatures.
     Function(u32),
-    TypeName(CType),
+    /// The name of a type, and whether it is const.
+    TypeName(CType, bool),
+    /// The name of a type of functions, by its place among the signatures.
+    FunctionType(u32),
     Builtin(Builtin),
     /// A name whose declaration was at fault.
     Unknown,
@@ -52,14 +57,59 @@ pub struct TagEntry {
 pub struct Signature {
     pub number: u32,
     pub result: CType,
+    /// Whether the result's type is const.
+    pub is_const: bool,
     pub parameters: List<CType>,
     pub is_defined: bool,
 }
 
-/// A call of a function by its number, and the place of its name.
+/// A call of a function: the numbers of the one that calls and of the one that is called, and the place of the name.
 #[derive(Clone, Copy)]
 pub struct Site {
+    pub caller: u32,
     pub function: u32,
+    pub place: Place,
+}
+
+/// A check: the number of the function in which it stands, its place and its kind.
+#[derive(Clone, Copy)]
+pub struct CheckSite {
+    pub function: u32,
+    pub place: Place,
+    pub kind: Kind,
+}
+
+/// A variable or parameter: its name and the name's place, its type, whether its storage is static, and the number of its
+/// function (0 at file scope).
+#[derive(Clone, Copy)]
+pub struct ObjectEntry {
+    pub name: u32,
+    pub place: Place,
+    pub of: CType,
+    pub is_static: bool,
+    pub function: u32,
+}
+
+/// A loop: the place of its word, the number of its function, and how many objects were declared before its head.
+#[derive(Clone, Copy)]
+pub struct LoopEntry {
+    pub place: Place,
+    pub function: u32,
+    pub objects: u32,
+}
+
+/// A variable of file scope by its name, with the type of one of its declarations.
+#[derive(Clone, Copy)]
+pub struct Linked {
+    pub name: u32,
+    pub of: CType,
+    pub is_const: bool,
+}
+
+/// A name and where it stands.
+#[derive(Clone, Copy)]
+pub struct Named {
+    pub name: u32,
     pub place: Place,
 }
 

@@ -1,15 +1,20 @@
 // What is known while a text is looked at, and what was found.
 ghost use Rattle.std.specs.Prelude.{◌≡◌, true, None, length, take, IfOk};
-ghost use Rattle.l2_types.specs.States.{saw, lookup, lookup_from, with_fault, with_use, with_call, kind_number, number_from};
+ghost use Rattle.l2_types.specs.States.{saw, lookup, lookup_from, with_fault, with_use, with_call, kind_number, check_from};
 ghost use Rattle.l2_types.specs.Meant.{checked};
-ghost use Rattle.l2_types.specs.Scopes.{entered, is_builtin, has_name, has_tag, is_taken, with_entry, declare, with_tag, define_tag};
+ghost use Rattle.l2_types.specs.Scopes.{entered, is_builtin, has_name, has_tag, is_taken, with_entry, with_outer_entry, declare, with_tag, define_tag};
+ghost use Rattle.std.specs.Prelude.{◌+◌, drop};
+ghost use Rattle.l2_types.specs.Founds.{start, object_at, place_of, variable, number_from, function_number, has, meaning_from, meaning_here, with_signature, with_linked, unless_full, with_object, new_object, has_variable, with_static, with_met, inside_function, outside_functions, new_loop, with_label};
 ghost use Rattle.l2_types.specs.Wants.{callable, parameter, wanted_by_function, wanted_by_builtin, wanted};
 ghost use Rattle.l2_types.specs.Switches.{jump, contains, also_value, with_value, the_default, begun};
 
 use crate::error::CheckError;
-use crate::state::{Builtin, Callable, Entry, Meaning, Signature, Site, TagEntry, Want};
+use crate::state::{
+    Builtin, Callable, CheckSite, Entry, Linked, LoopEntry, Meaning, Named, ObjectEntry, Signature,
+    Site, TagEntry, Want,
+};
 use crate::types::CType;
-use l2_program::CheckInfo;
+use l2_program::{CheckInfo, StaticValue};
 use l2_runs::Kind;
 use l2_syntax::{Place, Refusal, Rule, Scalar};
 use std::alloc::Global;
@@ -22,12 +27,23 @@ pub struct Table {
     tags: Vec<TagEntry>,
     level: u32,
     functions: Vec<Signature>,
+    linked: Vec<Linked>,
     overflow: bool,
     numbers: Vec<CheckInfo>,
+    places: Vec<Place>,
+    defined: Vec<u32>,
+    variables: Vec<Named>,
+    main: Option<u32>,
+    function: u32,
     faults: Vec<Refusal>,
-    checks: Vec<CheckInfo>,
+    checks: Vec<CheckSite>,
     calls: Vec<Site>,
     uses: Vec<u32>,
+    objects: Vec<ObjectEntry>,
+    statics: Vec<StaticValue>,
+    loops: Vec<LoopEntry>,
+    met: Vec<u32>,
+    labels: Vec<u32>,
     values: Vec<i128>,
     has_default: bool,
     has_declared: bool,
@@ -39,6 +55,14 @@ pub struct Outer {
     pub values: Vec<i128>,
     pub has_default: bool,
     pub has_declared: bool,
+}
+
+/// What was found in a text: its objects, the values of static ones, and its loops.
+#[derive(Drop)]
+pub struct Found {
+    pub objects: Vec<ObjectEntry>,
+    pub statics: Vec<StaticValue>,
+    pub loops: Vec<LoopEntry>,
 }
 
 /// How much stood round a scope when it began.
@@ -59,12 +83,23 @@ impl Model for Table {
       tags = t.tags.items;
       level = t.level;
       functions = t.functions.items;
+      linked = t.linked.items;
       overflow = t.overflow;
       numbers = t.numbers.items;
+      places = t.places.items;
+      defined = t.defined.items;
+      variables = t.variables.items;
+      main = t.main;
+      function = t.function;
       faults = t.faults.items;
       checks = t.checks.items;
       calls = t.calls.items;
       uses = t.uses.items;
+      objects = t.objects.items;
+      statics = t.statics.items;
+      loops = t.loops.items;
+      met = t.met.items;
+      labels = t.labels.items;
       values = t.values.items;
       has_default = t.has_default;
       has_declared = t.has_declared;
@@ -72,6 +107,47 @@ impl Model for Table {
 }
 
 impl Table {
+    /// A table for a text that wasn't looked at: its checks and the places of its objects as far as they are known, and
+    /// what it defines at file scope, and the number of the name `main`, where the text has it.
+    pub fn new(
+        alloc: Global,
+        overflow: bool,
+        numbers: Vec<CheckInfo>,
+        places: Vec<Place>,
+        defined: Vec<u32>,
+        variables: Vec<Named>,
+        main: Option<u32>,
+    ) -> Table
+        ensures { result ≡ start overflow numbers.items places.items defined.items variables.items main }
+    {
+        Table {
+            scope: Vec::new(alloc),
+            tags: Vec::new(alloc),
+            level: 0,
+            functions: Vec::new(alloc),
+            linked: Vec::new(alloc),
+            overflow,
+            numbers,
+            places,
+            defined,
+            variables,
+            main,
+            function: 0,
+            faults: Vec::new(alloc),
+            checks: Vec::new(alloc),
+            calls: Vec::new(alloc),
+            uses: Vec::new(alloc),
+            objects: Vec::new(alloc),
+            statics: Vec::new(alloc),
+            loops: Vec::new(alloc),
+            met: Vec::new(alloc),
+            labels: Vec::new(alloc),
+            values: Vec::new(alloc),
+            has_default: false,
+            has_declared: false,
+        }
+    }
+
     /// What a name stands for.
     pub fn lookup(&self, name: u32) -> Option<Meaning>
         ensures { result ≡ lookup self.now name }
@@ -109,7 +185,12 @@ impl Table {
     pub fn call(&mut self, function: u32, place: Place) -> Result<(), CheckError>
         ensures ok { IfOk result (λ u. self.new ≡ with_call function place self.old) }
     {
-        self.calls.push(Site { function, place })?;
+        let caller = self.function;
+        self.calls.push(Site {
+            caller,
+            function,
+            place,
+        })?;
         Ok(())
     }
 
@@ -120,7 +201,12 @@ impl Table {
         match kind {
             Some(kind) => {
                 let number = number_of(&self.numbers, place, kind)?;
-                self.checks.push(CheckInfo { place, kind })?;
+                let function = self.function;
+                self.checks.push(CheckSite {
+                    function,
+                    place,
+                    kind,
+                })?;
                 Ok(number)
             }
             None => Ok(0),
@@ -181,6 +267,19 @@ impl Table {
         Ok(outer)
     }
 
+    /// How much stands round the innermost scope, and in it.
+    pub fn scope(&self) -> Scope
+        ensures names { result.names ≡ length self.now.scope }
+        ensures tags { result.tags ≡ length self.now.tags }
+        ensures level { result.level ≡ self.now.level }
+    {
+        Scope {
+            names: self.scope.len(),
+            tags: self.tags.len(),
+            level: self.level,
+        }
+    }
+
     /// A scope ends.
     pub fn leave(&mut self, outer: Scope)
         ensures { self.new ≡ record self.old { scope = take outer.names self.old.scope; tags = take outer.tags self.old.tags; level = outer.level } }
@@ -191,19 +290,32 @@ impl Table {
     }
 
     /// Whether a name may not be declared here.
-    fn is_taken(&self, name: u32) -> bool
+    pub fn is_taken(&self, name: u32) -> bool
         ensures { result ≡ is_taken self.now name }
     {
         is_builtin(self.lookup(name)) || has_name(self.level, &self.scope, name)
     }
 
-    fn with_entry(&mut self, name: u32, meaning: Meaning) -> Result<(), CheckError>
+    /// A name stands for something in the innermost scope from here on.
+    pub fn with_entry(&mut self, name: u32, meaning: Meaning) -> Result<(), CheckError>
         ensures ok { IfOk result (λ u. self.new ≡ with_entry name meaning self.old) }
     {
         let level = self.level;
         self.scope.push(Entry {
             name,
             level,
+            meaning,
+        })?;
+        Ok(())
+    }
+
+    /// A name stands for something in a scope round that of the file.
+    pub fn with_outer_entry(&mut self, name: u32, meaning: Meaning) -> Result<(), CheckError>
+        ensures ok { IfOk result (λ u. self.new ≡ with_outer_entry name meaning self.old) }
+    {
+        self.scope.push(Entry {
+            name,
+            level: u32::MAX,
             meaning,
         })?;
         Ok(())
@@ -235,6 +347,249 @@ impl Table {
             return self.fault(place, Rule::Redeclared);
         }
         self.with_tag(name)
+    }
+
+    /// The number of the name `main`.
+    pub fn main(&self) -> Option<u32>
+        ensures { result ≡ self.now.main }
+    {
+        self.main
+    }
+
+    /// How many scopes stand round the innermost one.
+    pub fn level(&self) -> u32
+        ensures { result ≡ self.now.level }
+    {
+        self.level
+    }
+
+    /// What a name stands for in the innermost scope.
+    pub fn meaning_here(&self, name: u32) -> Option<Meaning>
+        ensures { result ≡ meaning_here self.now name }
+    {
+        meaning_in(self.level, &self.scope, name)
+    }
+
+    /// The functions that were declared.
+    pub fn functions(&self) -> &[Signature]
+        ensures { result.now ≡ self.now.functions }
+    {
+        self.functions.as_slice()
+    }
+
+    pub fn with_signature(&mut self, signature: Signature) -> Result<(), CheckError>
+        ensures ok { IfOk result (λ u. self.new ≡ with_signature signature self.old) }
+    {
+        self.functions.push(signature)?;
+        Ok(())
+    }
+
+    /// The variables of file scope that were declared.
+    pub fn linked(&self) -> &[Linked]
+        ensures { result.now ≡ self.now.linked }
+    {
+        self.linked.as_slice()
+    }
+
+    /// A variable of file scope was declared.
+    pub fn with_linked(&mut self, name: u32, of: CType, is_const: bool) -> Result<(), CheckError>
+        ensures ok { IfOk result (λ u. self.new ≡ with_linked name of is_const self.old) }
+    {
+        self.linked.push(Linked { name, of, is_const })?;
+        Ok(())
+    }
+
+    /// The number of the variable of this name that the text defines at file scope.
+    pub fn variable(&self, name: u32) -> Result<Option<u32>, CheckError>
+        ensures ok { IfOk result (λ o. o ≡ variable self.now name) }
+    {
+        match place_of(&self.variables, name) {
+            Some(place) => Ok(Some(object_at(&self.places, place)?)),
+            None => Ok(None),
+        }
+    }
+
+    /// The number of the function of this name; 0 where the text doesn't define it.
+    pub fn function_number(&self, name: u32) -> Result<u32, CheckError>
+        ensures ok { IfOk result (λ n. n ≡ function_number self.now name) }
+    {
+        number_in(&self.defined, name)
+    }
+
+    fn with_object(
+        &mut self,
+        name: u32,
+        place: Place,
+        of: CType,
+        is_static: bool,
+    ) -> Result<(), CheckError>
+        ensures ok { IfOk result (λ u. self.new ≡ with_object name place of is_static self.old) }
+    {
+        let function = self.function;
+        self.objects.push(ObjectEntry {
+            name,
+            place,
+            of,
+            is_static,
+            function,
+        })?;
+        Ok(())
+    }
+
+    fn unless_full(&mut self, place: Place) -> Result<(), CheckError>
+        ensures ok { IfOk result (λ u. self.new ≡ unless_full place self.old) }
+    {
+        if self.objects.len() == 65537 {
+            return self.fault(place, Rule::Cells);
+        }
+        Ok(())
+    }
+
+    /// A new object, and its number; `cells` where there are too many.
+    pub fn new_object(
+        &mut self,
+        name: u32,
+        place: Place,
+        of: CType,
+        is_static: bool,
+    ) -> Result<u32, CheckError>
+        ensures ok { IfOk result (λ n. new_object name place of is_static self.old ≡ saw n self.new) }
+    {
+        let number = number_behind(self.objects.len())?;
+        self.with_object(name, place, of, is_static)?;
+        self.unless_full(place)?;
+        Ok(number)
+    }
+
+    /// The objects so far.
+    pub fn objects(&self) -> &[ObjectEntry]
+        ensures { result.now ≡ self.now.objects }
+    {
+        self.objects.as_slice()
+    }
+
+    /// Whether a variable of this name was defined at file scope before.
+    pub fn has_variable(&self, name: u32) -> bool
+        ensures { result ≡ has_variable self.now.objects name }
+    {
+        has_variable(&self.objects, name)
+    }
+
+    /// What a cell of a static object holds at the start.
+    pub fn with_static(&mut self, value: StaticValue) -> Result<(), CheckError>
+        ensures ok { IfOk result (λ u. self.new ≡ with_static value self.old) }
+    {
+        self.statics.push(value)?;
+        Ok(())
+    }
+
+    /// How many functions the text defines.
+    pub fn defined_count(&self) -> usize
+        ensures { result ≡ length self.now.defined }
+    {
+        self.defined.len()
+    }
+
+    /// The calls so far.
+    pub fn calls(&self) -> &[Site]
+        ensures { result.now ≡ self.now.calls }
+    {
+        self.calls.as_slice()
+    }
+
+    /// The checks so far.
+    pub fn checks(&self) -> &[CheckSite]
+        ensures { result.now ≡ self.now.checks }
+    {
+        self.checks.as_slice()
+    }
+
+    /// The objects, the values of static ones, and the loops of the text.
+    pub fn into_found(self) -> Found
+        ensures objects { result.objects.items ≡ self.objects }
+        ensures statics { result.statics.items ≡ self.statics }
+        ensures loops { result.loops.items ≡ self.loops }
+    {
+        let Table {
+            objects,
+            statics,
+            loops,
+            ..
+        } = self;
+        Found {
+            objects,
+            statics,
+            loops,
+        }
+    }
+
+    /// Whether a function's definition was met.
+    pub fn is_met(&self, name: u32) -> bool
+        ensures { result ≡ has self.now.met name }
+    {
+        has(&self.met, name)
+    }
+
+    pub fn with_met(&mut self, name: u32) -> Result<(), CheckError>
+        ensures ok { IfOk result (λ u. self.new ≡ with_met name self.old) }
+    {
+        self.met.push(name)?;
+        Ok(())
+    }
+
+    /// The function of this number begins.
+    pub fn inside_function(&mut self, number: u32)
+        ensures { self.new ≡ inside_function number self.old }
+    {
+        self.function = number;
+        self.labels.clear();
+    }
+
+    /// A function ends.
+    pub fn outside_functions(&mut self)
+        ensures { self.new ≡ outside_functions self.old }
+    {
+        self.function = 0;
+    }
+
+    /// A loop, and its number.
+    pub fn new_loop(&mut self, place: Place) -> Result<u32, CheckError>
+        ensures ok { IfOk result (λ n. new_loop place self.old ≡ saw n self.new) }
+    {
+        let number = number_behind(self.loops.len())?;
+        let function = self.function;
+        let objects = count_of(self.objects.len())?;
+        self.loops.push(LoopEntry {
+            place,
+            function,
+            objects,
+        })?;
+        Ok(number)
+    }
+
+    /// How many uses of objects there are.
+    pub fn uses(&self) -> usize
+        ensures { result ≡ length self.now.uses }
+    {
+        self.uses.len()
+    }
+
+    /// The objects that are named behind the first uses.
+    pub fn named_from(&self, alloc: Global, mark: usize) -> Result<Vec<u32>, CheckError>
+        ensures ok { IfOk result (λ v. v.items ≡ drop mark self.now.uses) }
+    {
+        Ok(rest_of(&self.uses, mark).to_vec(alloc)?)
+    }
+
+    /// A label; `label` where the function has it already.
+    pub fn with_label(&mut self, name: u32, place: Place) -> Result<(), CheckError>
+        ensures ok { IfOk result (λ u. self.new ≡ with_label name place self.old) }
+    {
+        if has(&self.labels, name) {
+            return self.fault(place, Rule::Label);
+        }
+        self.labels.push(name)?;
+        Ok(())
     }
 
     /// `switch-jump`, where a declaration stood before.
@@ -332,6 +687,117 @@ impl Table {
     }
 }
 
+/// What stands behind the first few.
+fn rest_of(all: &[u32], mark: usize) -> &[u32]
+    ensures { result.now ≡ drop mark all.now }
+{
+    if mark < all.len() { &all[mark..] } else { &[] }
+}
+
+/// A length as a number. More than a `u32` counts is want of memory.
+fn count_of(n: usize) -> Result<u32, CheckError>
+    ensures ok { IfOk result (λ r. r ≡ n) }
+{
+    if n > u32::MAX as usize {
+        return Err(CheckError::NoMemory);
+    }
+    Ok(n as u32)
+}
+
+/// The number of what stands behind this many.
+fn number_behind(n: usize) -> Result<u32, CheckError>
+    ensures ok { IfOk result (λ r. r ≡ n + 1) }
+{
+    let count = count_of(n)?;
+    if count == u32::MAX {
+        return Err(CheckError::NoMemory);
+    }
+    Ok(count + 1)
+}
+
+/// What a name stands for in the scope of a level.
+fn meaning_in(level: u32, scope: &[Entry], name: u32) -> Option<Meaning>
+    ensures { result ≡ meaning_from None level scope.now name }
+{
+    let mut found = None;
+    for e in scope {
+        if e.name == name && e.level == level {
+            found = Some(e.meaning);
+        }
+    }
+    found
+}
+
+/// The place of the first variable of a name.
+fn place_of(variables: &[Named], name: u32) -> Option<Place>
+    ensures { result ≡ place_of variables.now name }
+{
+    for v in variables {
+        if v.name == name {
+            return Some(v.place);
+        }
+    }
+    None
+}
+
+/// The number of the object whose name stands at a place; 0 where it isn't known.
+fn object_at(places: &[Place], place: Place) -> Result<u32, CheckError>
+    ensures ok { IfOk result (λ n. n ≡ object_at 1 places.now place) }
+{
+    let mut number = 1;
+    for p in places {
+        if p.offset == place.offset {
+            return Ok(number);
+        }
+        if number == u32::MAX {
+            return Err(CheckError::NoMemory);
+        }
+        number += 1;
+    }
+    Ok(0)
+}
+
+/// The number of a name among these; 0 where it is none of them.
+fn number_in(names: &[u32], name: u32) -> Result<u32, CheckError>
+    ensures ok { IfOk result (λ n. n ≡ number_from 1 names.now name) }
+{
+    let mut number = 1;
+    for m in names {
+        if *m == name {
+            return Ok(number);
+        }
+        if number == u32::MAX {
+            return Err(CheckError::NoMemory);
+        }
+        number += 1;
+    }
+    Ok(0)
+}
+
+/// Whether a name is among these.
+fn has(names: &[u32], name: u32) -> bool
+    ensures { result ≡ has names.now name }
+{
+    for m in names {
+        if *m == name {
+            return true;
+        }
+    }
+    false
+}
+
+/// Whether a variable of this name is at file scope.
+fn has_variable(objects: &[ObjectEntry], name: u32) -> bool
+    ensures { result ≡ has_variable objects.now name }
+{
+    for o in objects {
+        if o.name == name && o.function == 0 {
+            return true;
+        }
+    }
+    false
+}
+
 /// Whether a number is among these.
 fn contains(values: &[i128], v: i128) -> bool
     ensures { result ≡ contains values.now v }
@@ -389,7 +855,7 @@ fn kind_number(kind: Kind) -> u8
 
 /// The number of a check; 0 where it has none. More checks than a `u32` counts are want of memory.
 fn number_of(numbers: &[CheckInfo], place: Place, kind: Kind) -> Result<u32, CheckError>
-    ensures ok { IfOk result (λ n. n ≡ number_from 1 numbers.now place kind) }
+    ensures ok { IfOk result (λ n. n ≡ check_from 1 numbers.now place kind) }
 {
     let mut number = 1;
     for c in numbers {

@@ -1,3 +1,4 @@
 pub mod Arguments
 pub mod Weights
 pub mod Names
+pub mod Bodies

@@ -1,8 +1,8 @@
 -- What an expression stands for, with its faults, checks and calls: operands go from left to right.
-use Rattle.std.specs.Prelude.{ℕ, ◌+◌, Bool, true, false, if◌then◌else◌, Option, None}
+use Rattle.std.specs.Prelude.{ℕ, ℤ, pos, ◌+◌, Bool, true, false, if◌then◌else◌, Option, Some, None}
 use Rattle.l2_syntax.specs.declared.place.Place.{Place}
 use Rattle.l2_tree.specs.Trees as tree
-use Rattle.l2_tree.specs.Trees.{ExprTree, ExprTrees, no_exprs, and_expr}
+use Rattle.l2_tree.specs.Trees.{ExprTree, ExprTrees, no_exprs, and_expr, SpecifierTree, SpecifierTrees, first_specifier, and_specifier, EnumeratorTree, EnumeratorTrees, first_enumerator, and_enumerator, ParameterTree}
 use Rattle.l2_types.specs.declared.typed.Gives.TheVariants.{Before, After}
 use Rattle.l2_types.specs.declared.state.Meaning.{Meaning}
 use Rattle.l2_types.specs.declared.state.Callee.{Callee}
@@ -12,13 +12,17 @@ use Rattle.l2_types.specs.declared.state.Want.TheVariants.{Literal}
 use Rattle.l2_types.specs.Types.{type_of_scalar}
 use Rattle.l2_types.specs.Operators.{class_of, step_of, assignment_of}
 use Rattle.l2_types.specs.Trees.{TypedTree, Constant, Abort, TypedTrees, no_trees, and_tree}
-use Rattle.l2_types.specs.States.{State, Seen, saw, next, lookup, unevaluated}
+use Rattle.l2_types.specs.States.{State, Seen, saw, next, lookup, unevaluated, state_of}
 use Rattle.l2_types.specs.Meant.{MeantTree, Unknown, valued, wrong, integer, type_of}
 use Rattle.l2_values.specs.Values.{named, binary, unary, conditional, comma, assign, stepped, sized}
 use Rattle.l2_tree_laws.specs.Places.{first_place}
+use Rattle.l2_tree_laws.specs.Specifiers.{base_of}
 use Rattle.l2_types.specs.Wants.{wanted}
 use Rattle.l2_calls.specs.Calls.{callee, is_literal, fitted, fails, called}
-use Rattle.l2_types_expr.specs.TypeNames.{type_name, size_of_name, cast_to}
+use Rattle.l2_types_expr.specs.declared.type_names.BaseName.{BaseName}
+use Rattle.l2_types_expr.specs.declared.type_names.NamedType.{NamedType}
+use Rattle.l2_types_expr.specs.TypeNames.{based, plain_type, function_of, size_of_name, cast_to}
+use Rattle.l2_types_expr.specs.Enumerators.{constant, in_int, with_enumerator, with_enum_tag}
 
 abbrev pub count : ExprTrees → ℕ
 count no_exprs = 0
@@ -78,3 +82,30 @@ abbrev mutual
   arguments m k (and_expr es e) s =
       next (arguments m k es s) (λ xs t.
       next (argument (is_skipped (wanted t m k (count es)) e) (wanted t m k (count es)) (first_place e) (judge e t) t) (λ x u. saw (and_tree xs x) u))
+
+  -- the name of a type; declarators in it aren't looked at, as pointers and arrays aren't built yet
+  pub type_name : ParameterTree → State → Seen NamedType
+  type_name (tree.Bare xs) s = next (based (base_of xs) (enumerated xs s)) (λ b t. saw (plain_type b) t)
+  type_name (tree.Declared xs d) s = next (based (base_of xs) (enumerated xs s)) (λ b t. saw (function_of b) t)
+
+  -- enumerators among specifiers become known
+  pub enumerated : SpecifierTrees → State → State
+  enumerated (first_specifier x) s = enum_body x s
+  enumerated (and_specifier xs x) s = enum_body x (enumerated xs s)
+
+  pub enum_body : SpecifierTree → State → State
+  enum_body (tree.EnumBody p t q es b) s = state_of (enumerators es (with_enum_tag t s))
+  enum_body x s = s
+
+  -- the first one without a value of its own is 0
+  pub enumerators : EnumeratorTrees → State → Seen (Option ℤ)
+  enumerators (first_enumerator e) s = enumerator e (Some (pos 0)) s
+  enumerators (and_enumerator es e) s = next (enumerators es s) (λ v t. enumerator e v t)
+
+  pub enumerator : EnumeratorTree → Option ℤ → State → Seen (Option ℤ)
+  enumerator (tree.Plain n p) v s = with_enumerator n p v s
+  enumerator (tree.Valued n p q e) v s = next (constant (first_place e) (judge e s) s) (λ w t. with_enumerator n p (in_int w) t)
+
+-- the type that specifiers name
+abbrev pub specified : SpecifierTrees → State → Seen BaseName
+specified xs s = based (base_of xs) (enumerated xs s)

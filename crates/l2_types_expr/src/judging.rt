@@ -1,18 +1,22 @@
 // Expressions.
 ghost use Rattle.std.specs.Prelude.{◌≡◌, if◌then◌else◌, length, take, None, IfOk};
 ghost use Rattle.l2_tree.specs.Trees.{no_exprs};
-ghost use Rattle.l2_tree.specs.Units.{expr_tree, exprs_onto};
+ghost use Rattle.l2_tree.specs.Units.{expr_tree, exprs_onto, parameter_tree, specifier_tree, specifiers_tree, enumerator_tree, enumerators_tree};
 ghost use Rattle.l2_types.specs.Trees.{typed_tree, typed_onto, no_trees};
 ghost use Rattle.l2_types.specs.States.{saw, next, lookup};
 ghost use Rattle.l2_types.specs.declared.state.Callee.{Callee};
 ghost use Rattle.l2_types.specs.Meant.{meant_tree, wrong};
 ghost use Rattle.l2_tree_laws.specs.Places.{first_place};
-ghost use Rattle.l2_types_expr.specs.Expressions.{called_by, call, judge, arguments, argument, is_skipped};
+ghost use Rattle.l2_types_expr.specs.Expressions.{called_by, call, judge, arguments, argument, is_skipped, type_name, specified, enumerated, enum_body, enumerators, enumerator};
+ghost use Rattle.l2_types_expr.specs.Enumerators.{constant};
 
-use crate::type_names::{cast_to, size_of_name, type_name};
+use crate::enumerators::{constant_of, in_int, with_enum_tag, with_enumerator};
+use crate::type_names::{
+    BaseName, NamedType, based, cast_to, function_of, plain_type, size_of_name,
+};
 use l2_calls::{called, callee, fails, fitted, is_literal};
 use l2_syntax::Place;
-use l2_tree::Expr;
+use l2_tree::{Enumerator, Enumerators, Expr, Parameter, Specifier, Specifiers};
 use l2_tree_names::first_place;
 use l2_types::{
     Callee, CheckError, Gives, Meaning, Meant, Table, Typed, Want, assignment_of, class_of,
@@ -164,11 +168,11 @@ pub fn judge(alloc: Global, table: &mut Table, e: &Expr) -> Result<Meant, CheckE
             sized(alloc, table, *place, type_of(&m))
         }
         Expr::SizeofType(place, _, t) => {
-            let t = type_name(table, t)?;
+            let t = type_name(alloc, table, t)?;
             size_of_name(alloc, table, *place, t)
         }
         Expr::Cast(place, t, e) => {
-            let t = type_name(table, t)?;
+            let t = type_name(alloc, table, t)?;
             let m = judge(alloc, table, e)?;
             let operand = value_of(alloc, m)?;
             cast_to(alloc, table, *place, t, operand)
@@ -201,6 +205,116 @@ pub fn judge(alloc: Global, table: &mut Table, e: &Expr) -> Result<Meant, CheckE
             let n = judge(alloc, table, b)?;
             let right = value_of(alloc, n)?;
             comma(alloc, table, left, right)
+        }
+    }
+}
+
+/// The number of an expression that must be constant; else `constant` at its first token.
+#[cycle(judging)]
+#[tactic(auto, using(l2_types::proofs::Steps::steps))]
+pub fn constant(alloc: Global, table: &mut Table, e: &Expr) -> Result<Option<i128>, CheckError>
+    ensures ok { IfOk result (λ v. constant (first_place (expr_tree e.now)) (judge (expr_tree e.now) table.old) table.old ≡ saw v table.new) }
+{
+    let mark = table.mark();
+    let m = judge(alloc, table, e)?;
+    let x = value_of(alloc, m)?;
+    table.forget(mark);
+    constant_of(table, first_place(e), x)
+}
+
+/// An enumerator, with the value that it has without one of its own. The answer is that of the next one.
+#[cycle(judging)]
+#[tactic(auto, using(l2_types::proofs::Steps::steps))]
+fn enumerator(
+    alloc: Global,
+    table: &mut Table,
+    e: &Enumerator,
+    value: Option<i128>,
+) -> Result<Option<i128>, CheckError>
+    ensures ok { IfOk result (λ v. enumerator (enumerator_tree e.now) value table.old ≡ saw v table.new) }
+{
+    match e {
+        Enumerator::Plain(name, place) => with_enumerator(table, *name, *place, value),
+        Enumerator::Valued(name, place, _, e) => {
+            let own = constant(alloc, table, e)?;
+            with_enumerator(table, *name, *place, in_int(own))
+        }
+    }
+}
+
+/// Enumerators, one after another.
+#[cycle(judging)]
+#[tactic(auto, using(l2_types::proofs::Steps::steps, crate::proofs::Bodies::bodies))]
+fn enumerators(
+    alloc: Global,
+    table: &mut Table,
+    all: &Enumerators,
+) -> Result<Option<i128>, CheckError>
+    ensures ok { IfOk result (λ v. enumerators (enumerators_tree all.now) table.old ≡ saw v table.new) }
+{
+    let mut value = enumerator(alloc, table, &all.first, Some(0))?;
+    for e in all.rest.as_slice() {
+        value = enumerator(alloc, table, e, value)?;
+    }
+    Ok(value)
+}
+
+/// The enumerators of an enum with a body.
+#[cycle(judging)]
+#[tactic(auto, using(l2_types::proofs::Steps::states, crate::proofs::Bodies::bodies, crate::proofs::Weights::parts))]
+fn enum_body(alloc: Global, table: &mut Table, x: &Specifier) -> Result<(), CheckError>
+    ensures ok { IfOk result (λ u. table.new ≡ enum_body (specifier_tree x.now) table.old) }
+{
+    match x {
+        Specifier::EnumBody(_, tag, _, all, _) => {
+            with_enum_tag(table, *tag)?;
+            let _ = enumerators(alloc, table, all)?;
+            Ok(())
+        }
+        Specifier::Word(..)
+        | Specifier::TypeName(..)
+        | Specifier::Struct(..)
+        | Specifier::StructBody(..)
+        | Specifier::Enum(..) => Ok(()),
+    }
+}
+
+/// The enumerators among specifiers.
+#[cycle(judging)]
+#[tactic(auto, using(crate::proofs::Bodies::bodies))]
+fn enumerated(alloc: Global, table: &mut Table, all: &Specifiers) -> Result<(), CheckError>
+    ensures ok { IfOk result (λ u. table.new ≡ enumerated (specifiers_tree all.now) table.old) }
+{
+    enum_body(alloc, table, &all.first)?;
+    for x in all.rest.as_slice() {
+        enum_body(alloc, table, x)?;
+    }
+    Ok(())
+}
+
+/// The type that specifiers name. Enumerators in it become known.
+#[cycle(judging)]
+pub fn specified(alloc: Global, table: &mut Table, all: &Specifiers) -> Result<BaseName, CheckError>
+    ensures ok { IfOk result (λ b. specified (specifiers_tree all.now) table.old ≡ saw b table.new) }
+{
+    enumerated(alloc, table, all)?;
+    based(table, all)
+}
+
+/// The name of a type.
+#[cycle(judging)]
+#[tactic(auto, using(l2_types::proofs::Steps::steps, crate::proofs::Names::names, crate::proofs::Weights::parts))]
+fn type_name(alloc: Global, table: &mut Table, t: &Parameter) -> Result<NamedType, CheckError>
+    ensures ok { IfOk result (λ r. type_name (parameter_tree t.now) table.old ≡ saw r table.new) }
+{
+    match t {
+        Parameter::Plain(all) => {
+            let base = specified(alloc, table, all)?;
+            Ok(plain_type(base))
+        }
+        Parameter::Declared(all, _) => {
+            let base = specified(alloc, table, all)?;
+            Ok(function_of(base))
         }
     }
 }

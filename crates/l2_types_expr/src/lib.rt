@@ -1,8 +1,9 @@
 //! What an expression on integers stands for, with its faults, its checks, its calls and the objects that it names.
 #![tactic(auto)]
 
+mod enumerators;
 mod judging;
 mod type_names;
 
-pub use judging::judge;
-pub use type_names::{NamedType, type_name};
+pub use judging::{constant, judge, specified};
+pub use type_names::{BaseName, NamedType};

@@ -1,17 +1,28 @@
-// The names of types.
+// Types by their names.
 ghost use Rattle.std.specs.Prelude.{◌≡◌, IfOk};
-ghost use Rattle.l2_tree.specs.Units.{specifier_tree, specifiers_tree, parameter_tree};
+ghost use Rattle.l2_tree.specs.Units.{specifier_tree, specifiers_tree};
 ghost use Rattle.l2_tree_laws.specs.Specifiers.{base_of};
 ghost use Rattle.l2_types.specs.States.{saw};
 ghost use Rattle.l2_types.specs.Meant.{meant_tree, operand_tree};
-ghost use Rattle.l2_types_expr.specs.TypeNames.{type_named, tag_type, based, function_of, type_name, size_of_name, cast_to};
+ghost use Rattle.l2_types_expr.specs.TypeNames.{type_named, tag_type, based, plain_type, function_of, size_of_name, cast_to};
 
 use l2_syntax::{Place, Rule, Scalar};
-use l2_tree::{Parameter, Specifier, Specifiers};
+use l2_tree::{Specifier, Specifiers};
 use l2_tree_names::{BaseType, base_of};
 use l2_types::{CType, CheckError, Meaning, Meant, Operand, Table};
 use l2_values::{cast, sized, wrong};
 use std::alloc::Global;
+
+/// The type that specifiers name.
+#[derive(Clone, Copy)]
+pub enum BaseName {
+    /// It is at fault.
+    Unknown,
+    /// A type of functions, by its place among the signatures.
+    FunctionType(u32),
+    /// A type, and whether the name makes it const.
+    Known(CType, bool),
+}
 
 /// What the name of a type is to an operator.
 #[derive(Clone, Copy)]
@@ -28,41 +39,42 @@ fn type_named(
     table: &mut Table,
     place: Place,
     meaning: Option<Meaning>,
-) -> Result<NamedType, CheckError>
+) -> Result<BaseName, CheckError>
     ensures ok { IfOk result (λ t. type_named place meaning table.old ≡ saw t table.new) }
 {
     match meaning {
-        Some(Meaning::TypeName(t)) => Ok(NamedType::Known(t)),
-        Some(Meaning::Unknown) => Ok(NamedType::Unknown),
+        Some(Meaning::TypeName(t, is_const)) => Ok(BaseName::Known(t, is_const)),
+        Some(Meaning::FunctionType(g)) => Ok(BaseName::FunctionType(g)),
+        Some(Meaning::Unknown) => Ok(BaseName::Unknown),
         _ => {
             table.fault(place, Rule::BadType)?;
-            Ok(NamedType::Unknown)
+            Ok(BaseName::Unknown)
         }
     }
 }
 
-fn tag_type(x: &Specifier) -> NamedType
+fn tag_type(x: &Specifier) -> BaseName
     ensures { result ≡ tag_type (specifier_tree x.now) }
 {
     match x {
         Specifier::Enum(..) | Specifier::EnumBody(..) => {
-            NamedType::Known(CType::Integer(Scalar::Int))
+            BaseName::Known(CType::Integer(Scalar::Int), false)
         }
         Specifier::Word(..)
         | Specifier::TypeName(..)
         | Specifier::Struct(..)
-        | Specifier::StructBody(..) => NamedType::Unknown,
+        | Specifier::StructBody(..) => BaseName::Unknown,
     }
 }
 
-/// The type that specifiers name.
+/// The type that specifiers name, whose enumerators are known.
 #[tactic(auto, using(crate::proofs::Names::bases))]
-fn based(table: &mut Table, all: &Specifiers) -> Result<NamedType, CheckError>
+pub fn based(table: &mut Table, all: &Specifiers) -> Result<BaseName, CheckError>
     ensures ok { IfOk result (λ t. based (base_of (specifiers_tree all.now)) table.old ≡ saw t table.new) }
 {
     match base_of(all) {
-        BaseType::Void => Ok(NamedType::Known(CType::Void)),
-        BaseType::Number(a) => Ok(NamedType::Known(CType::Integer(a))),
+        BaseType::Void => Ok(BaseName::Known(CType::Void, false)),
+        BaseType::Number(a) => Ok(BaseName::Known(CType::Integer(a), false)),
         BaseType::Named(name, place) => {
             let meaning = table.lookup(name);
             type_named(table, place, meaning)
@@ -71,26 +83,22 @@ fn based(table: &mut Table, all: &Specifiers) -> Result<NamedType, CheckError>
     }
 }
 
-fn function_of(t: NamedType) -> NamedType
-    ensures { result ≡ function_of t }
+pub fn plain_type(t: BaseName) -> NamedType
+    ensures { result ≡ plain_type t }
 {
     match t {
-        NamedType::Unknown => NamedType::Unknown,
-        NamedType::Function | NamedType::Known(_) => NamedType::Function,
+        BaseName::Unknown => NamedType::Unknown,
+        BaseName::FunctionType(_) => NamedType::Function,
+        BaseName::Known(t, _) => NamedType::Known(t),
     }
 }
 
-/// The name of a type.
-#[tactic(auto, using(crate::proofs::Names::names))]
-pub fn type_name(table: &mut Table, t: &Parameter) -> Result<NamedType, CheckError>
-    ensures ok { IfOk result (λ r. type_name (parameter_tree t.now) table.old ≡ saw r table.new) }
+pub fn function_of(t: BaseName) -> NamedType
+    ensures { result ≡ function_of t }
 {
     match t {
-        Parameter::Plain(all) => based(table, all),
-        Parameter::Declared(all, _) => {
-            let base = based(table, all)?;
-            Ok(function_of(base))
-        }
+        BaseName::Unknown => NamedType::Unknown,
+        BaseName::FunctionType(_) | BaseName::Known(_, _) => NamedType::Function,
     }
 }
 

@@ -34,7 +34,8 @@ named p None s = saw Unknown (with_fault p UnknownName s)
 named p (Some (meaning.Object o t c)) s = saw (Located t c (ObjectAt o)) (with_use o s)
 named p (Some (meaning.Enumerator v)) s = integer Int (Constant int_type v) s
 named p (Some (meaning.Function f)) s = wrong p s
-named p (Some (meaning.TypeName t)) s = wrong p s
+named p (Some (meaning.TypeName t c)) s = wrong p s
+named p (Some (meaning.FunctionType g)) s = wrong p s
 named p (Some (meaning.Builtin b)) s = wrong p s
 named p (Some meaning.Unknown) s = saw Unknown s
 

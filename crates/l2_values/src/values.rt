@@ -47,7 +47,8 @@ pub fn named(
             Typed::Constant(Ty::INT, value),
         ),
         Some(Meaning::Function(_)) => wrong(table, place),
-        Some(Meaning::TypeName(_)) => wrong(table, place),
+        Some(Meaning::TypeName(_, _)) => wrong(table, place),
+        Some(Meaning::FunctionType(_)) => wrong(table, place),
         Some(Meaning::Builtin(_)) => wrong(table, place),
         Some(Meaning::Unknown) => Ok(Meant::Unknown),
     }

@@ -8,7 +8,7 @@ use Rattle.l2_ssa.specs.declared.goal.Kind.{Kind}
 use Rattle.l2_ssa.specs.Walks.{T, F}
 use Rattle.l2_ssa.specs.Views.{kinds_of}
 use Rattle.l2_ssa.specs.Law.{ssa, first_walk}
-use Rattle.l2_walk.specs.Made.{State, put, temps_of}
+use Rattle.l2_walker.specs.Made.{State, put, temps_of}
 use Rattle.l2_walk.specs.Nodes.{after_nodes}
 
 abbrev pub begun : Code → Sets → List Kind → ℕ → Bool → State

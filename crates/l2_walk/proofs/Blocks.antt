@@ -1,38 +1,14 @@
 -- Blocks: the entries that arrive at their labels.
-use Rattle.std.proofs.Common.{arith, length, ◌≡◌, ℕ, zero, suc, refl, sym, ap, ◌∙◌, List, [], ◌∷◌, ◌++◌}
+use Rattle.std.proofs.Common.{◌≡◌, ℕ, sym, ap, ◌∙◌, List, [], ◌∷◌, ◌++◌}
 use Rattle.std.proofs.lemmas.List.{append_assoc, append-nil}
 use Rattle.l2_code.specs.declared.action.Operand.{Operand}
 use Rattle.l2_code.specs.Trees.{Nodes}
 use Rattle.l2_code.specs.Trees as code
-use Rattle.l2_ssa.specs.Walks.{Frame, Entry, Out, Written, Block, merge_if, merge_all, outer, outer_if, past, walk}
-use Rattle.l2_walk.specs.Made.{State, setting, put, within, standing}
+use Rattle.l2_ssa.specs.Walks.{Frame, Entry, Out, Written, Block, merge_all, outer, past, walk}
+use Rattle.l2_walker.specs.Made.{State, setting, put, within, standing}
 use Rattle.l2_walk.specs.Nodes.{after_node, after_nodes}
-use Rattle.l2_walk.specs.Labels.{landed, arrived, arrived_by}
-use Rattle.l2_walk.proofs.States.{past_app}
-
--- the entry that arrives first, and the others
-pub landed_more : (s : State) (e : Entry) (es : List Entry) → landed s (e ∷ es) ≡ landed (arrived s e) es
-landed_more s e es = by e.depth
-  where
-    by : (d : ℕ) → (let m = merge_if (setting s) d e s.names s.walk in
-        let r = merge_all (setting s) es (past s.names m.steps) m.walk in
-        record s {
-          names = past s.names (m.steps ++ r.steps);
-          steps = λ rest. s.steps ((m.steps ++ r.steps) ++ rest);
-          walk = r.walk;
-          entries = λ rest. s.entries (outer_if d e (outer es) ++ rest);
-        })
-        ≡ landed (arrived_by s d e) es
-    by zero =
-        let m = merge_if (setting s) zero e s.names s.walk in
-        let r = merge_all (setting s) es (past s.names m.steps) m.walk in
-        λ i. record s {
-          names = past_app s.names m.steps r.steps i;
-          steps = λ rest. s.steps (append_assoc m.steps r.steps rest i);
-          walk = r.walk;
-          entries = λ rest. s.entries (outer es ++ rest);
-        }
-    by (suc d) = refl
+use Rattle.l2_walk_turns.specs.Labels.{landed}
+use Rattle.l2_walker.proofs.States.{past_app}
 
 -- behind a block whose label all its entries have reached
 pub block_is : (s : State) (c : Operand) (all : Nodes) (outside : List Entry) → ((rest : List Entry) → s.entries rest ≡ outside ++ rest) → (temps : ℕ → Operand) → temps ≡ s.walk.temps
@@ -78,7 +54,3 @@ block_steps s s1 s2 s3 s4 s5 s6 s7 c all outside inside temps e1 eo et e2 e3 e4 
 
     closed6 : s6 ≡ landed (record (put s o) { entries = λ rest. outside ++ rest }) o.entries
     closed6 = e6 ∙ (λ i. landed ((e5 ∙ (λ j. record (closed4 j) { entries = λ rest. outside ++ rest })) i) (in_is i))
-
-pub nothing_left : (es : List Entry) → 0 ≡ length es → es ≡ []
-nothing_left [] e = refl
-nothing_left (x ∷ es) e = absurd (omega (arith, e))

@@ -1,12 +1,4 @@
-mod States
 mod Turning
 mod Blocks
-mod Computing
-mod Looking
-mod Merging
-mod Framing
-mod Temps
-mod Rows
-mod Stepping
-mod Picking
 mod Beginning
+mod Coding

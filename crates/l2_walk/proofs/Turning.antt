@@ -7,9 +7,9 @@ use Rattle.l2_code.specs.declared.action.Operand.TheVariants.{Temp}
 use Rattle.l2_code.specs.Trees.{Loop, Nodes}
 use Rattle.l2_ssa.specs.Steps.{Step, Choose}
 use Rattle.l2_ssa.specs.Walks.{Kind, Bottom, Plain, Rows, nothing, Slot, Frame, Out, past, joined, is_last, copy_frame, count_steps, count_name, end_turn, scatter, head_rows, walk, walk_copies, walk_loop}
-use Rattle.l2_walk.specs.Made.{State, setting, put, extended}
+use Rattle.l2_walker.specs.Made.{State, setting, put, extended}
 use Rattle.l2_walk.specs.Nodes.{after_node, after_nodes, back_of, entered, entered_turn, left_turn, turns_left}
-use Rattle.l2_walk.proofs.States.{past_app, put_joined}
+use Rattle.l2_walker.proofs.States.{past_app, put_joined}
 
 -- one copy more
 pub turn_more : (s : State) (l : ℕ) (all : Nodes) (kind : Kind) (b c : Operand) (temps : ℕ → Operand) (k : ℕ)

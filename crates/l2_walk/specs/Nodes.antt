@@ -7,7 +7,7 @@ use Rattle.l2_ssa.specs.Steps.{Choose}
 use Rattle.l2_ssa.specs.Walks.{Kind, Bottom, Plain, Rows, Slot, Frame, F, walk_node, walk, walk_copies, copy_frame, count_steps, end_turn}
 use Rattle.l2_ssa.specs.Views.{kind_of}
 use Rattle.l2_walk.specs.declared.nodes.Turns.{Turns}
-use Rattle.l2_walk.specs.Made.{State, setting, emitted, extended, put, started, temps_of}
+use Rattle.l2_walker.specs.Made.{State, setting, emitted, extended, put, started, temps_of}
 
 abbrev pub after_node : State → Operand → Node → State
 after_node s c x = put s (walk_node (setting s) x s.frames c s.names s.walk)

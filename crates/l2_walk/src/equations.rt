@@ -6,11 +6,11 @@ ghost use Rattle.l2_ssa.specs.Law as law;
 ghost use Rattle.l2_ssa.specs.Law.{constants, flag_of, first_slots};
 ghost use Rattle.l2_ssa.specs.Views.{steps_of, events_of, kinds_of};
 
-use crate::slots::{FALSE, Slot, TRUE};
-use crate::walker::Walker;
+use crate::nodes::nodes;
 use l2_code::{Code, CodeObject, Operand, Sets};
 use l2_runs::CellValue;
 use l2_ssa::{Kind, Ssa};
+use l2_walker::{FALSE, Slot, TRUE, Walker};
 use std::alloc::{AllocError, Global};
 
 fn constants(alloc: Global, values: &[CellValue]) -> Result<Vec<Operand>, AllocError>
@@ -73,7 +73,7 @@ pub fn walk<'a>(
         temps: Vec::new(alloc),
         slots,
     };
-    walker.nodes(&code.items, TRUE)?;
+    nodes(&mut walker, &code.items, TRUE)?;
     let Walker {
         alloc: _,
         code: _,

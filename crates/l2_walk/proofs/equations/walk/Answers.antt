@@ -5,7 +5,7 @@ use Rattle.l2_code.specs.Sets.{family}
 use Rattle.l2_ssa.specs.Walks.{T}
 use Rattle.l2_ssa.specs.Law.{ssa, first_slots}
 use Rattle.l2_ssa.specs.Views.{steps_of, events_of, kinds_of}
-use Rattle.l2_walk.specs.Made.{state_of, put, frames_of, temps_of}
+use Rattle.l2_walker.specs.Made.{state_of, put, frames_of, temps_of}
 use Rattle.l2_walk.specs.Nodes.{after_nodes}
 use Rattle.l2_walk.proofs.Beginning.{begun, no_temps}
 use Rattle.l2_walk.proofs.equations.walk.Goals as goal
@@ -16,7 +16,7 @@ returns-clause-steps c =
     let code = c.args.code.now in
     let sets = c.args.sets.now in
     let out = ssa (code_of code) (family sets) c.args.copies (kinds_of c.args.kinds.now) c.args.ranks in
-    let e : state_of c.nodes.new.self ≡ put (begun code sets c.args.kinds.now c.args.copies c.args.ranks) out =
+    let e : state_of c.nodes.new.walker ≡ put (begun code sets c.args.kinds.now c.args.copies c.args.ranks) out =
     c.in_ok-nodes.ensures
     ∙ (λ i. after_nodes (record {
       code = code;
@@ -32,7 +32,7 @@ returns-clause-steps c =
       frames = frames_of (c.new-5.ensures.items i);
       walk = record { path = T; temps = (ap temps_of c.new-6.ensures.items ∙ no_temps) i; slots = (c.in_ok-slots.ensures ∙ ap first_slots c.as_slice.ensures) i };
     }) T (items_of (c.deref.ensures.value i))) in
-    let items = c.nodes.new.self.steps.items in
+    let items = c.nodes.new.walker.steps.items in
     let kept = ap (λ t. t.sets) e in
     sym (append-nil (steps_of (family sets) items)) ∙ ap (λ f. steps_of (family f) items ++ []) (sym kept) ∙ ap (λ t. t.steps []) e ∙ append-nil out.steps
 
@@ -42,7 +42,7 @@ returns-clause-events c =
     let code = c.args.code.now in
     let sets = c.args.sets.now in
     let out = ssa (code_of code) (family sets) c.args.copies (kinds_of c.args.kinds.now) c.args.ranks in
-    let e : state_of c.nodes.new.self ≡ put (begun code sets c.args.kinds.now c.args.copies c.args.ranks) out =
+    let e : state_of c.nodes.new.walker ≡ put (begun code sets c.args.kinds.now c.args.copies c.args.ranks) out =
     c.in_ok-nodes.ensures
     ∙ (λ i. after_nodes (record {
       code = code;
@@ -58,7 +58,7 @@ returns-clause-events c =
       frames = frames_of (c.new-5.ensures.items i);
       walk = record { path = T; temps = (ap temps_of c.new-6.ensures.items ∙ no_temps) i; slots = (c.in_ok-slots.ensures ∙ ap first_slots c.as_slice.ensures) i };
     }) T (items_of (c.deref.ensures.value i))) in
-    sym (append-nil (events_of c.nodes.new.self.events.items)) ∙ ap (λ t. t.events []) e ∙ append-nil out.events
+    sym (append-nil (events_of c.nodes.new.walker.events.items)) ∙ ap (λ t. t.events []) e ∙ append-nil out.events
 
 pub returns-clause-heads : goal.returns-clause-heads
 unfolding state_of
@@ -66,7 +66,7 @@ returns-clause-heads c =
     let code = c.args.code.now in
     let sets = c.args.sets.now in
     let out = ssa (code_of code) (family sets) c.args.copies (kinds_of c.args.kinds.now) c.args.ranks in
-    let e : state_of c.nodes.new.self ≡ put (begun code sets c.args.kinds.now c.args.copies c.args.ranks) out =
+    let e : state_of c.nodes.new.walker ≡ put (begun code sets c.args.kinds.now c.args.copies c.args.ranks) out =
     c.in_ok-nodes.ensures
     ∙ (λ i. after_nodes (record {
       code = code;
@@ -82,7 +82,7 @@ returns-clause-heads c =
       frames = frames_of (c.new-5.ensures.items i);
       walk = record { path = T; temps = (ap temps_of c.new-6.ensures.items ∙ no_temps) i; slots = (c.in_ok-slots.ensures ∙ ap first_slots c.as_slice.ensures) i };
     }) T (items_of (c.deref.ensures.value i))) in
-    sym (append-nil c.nodes.new.self.heads.items) ∙ ap (λ t. t.heads []) e ∙ append-nil out.heads
+    sym (append-nil c.nodes.new.walker.heads.items) ∙ ap (λ t. t.heads []) e ∙ append-nil out.heads
 
 pub returns-clause-sets : goal.returns-clause-sets
 unfolding state_of
@@ -90,7 +90,7 @@ returns-clause-sets c =
     let code = c.args.code.now in
     let sets = c.args.sets.now in
     let out = ssa (code_of code) (family sets) c.args.copies (kinds_of c.args.kinds.now) c.args.ranks in
-    let e : state_of c.nodes.new.self ≡ put (begun code sets c.args.kinds.now c.args.copies c.args.ranks) out =
+    let e : state_of c.nodes.new.walker ≡ put (begun code sets c.args.kinds.now c.args.copies c.args.ranks) out =
     c.in_ok-nodes.ensures
     ∙ (λ i. after_nodes (record {
       code = code;

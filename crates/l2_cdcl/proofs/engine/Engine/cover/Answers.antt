@@ -14,6 +14,9 @@ invariant_of-self c = kept (goal.at.invariant_of-self c).After-cover
 pub invariant_of-self-in_err-cover-2 : goal.invariant_of-self-in_err-cover-2
 invariant_of-self-in_err-cover-2 c = kept (goal.at.invariant_of-self-in_err-cover-2 c).After-cover
 
+pub invariant_of-self-in_err-cover-3 : goal.invariant_of-self-in_err-cover-3
+invariant_of-self-in_err-cover-3 c = kept (goal.at.invariant_of-self-in_err-cover-3 c).After-cover
+
 pub invariant_of-self-in_err-self-inside : goal.invariant_of-self-in_err-self-inside
 invariant_of-self-in_err-self-inside c = kept (goal.at.invariant_of-self-in_err-self-inside c).After-cover
 

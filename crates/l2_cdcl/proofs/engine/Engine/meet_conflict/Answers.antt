@@ -44,8 +44,8 @@ returns-then-level-eq0-clause-turn c =
     let d = (goal.at.returns-then-level-eq0-clause-turn c).After-facts in
     (refl, record { levels = nil_from_length c.args.self.now.board.levels (omega (arith, c.levels-level.ensures, ap (λ b. length b.levels) (board d))); within = c.requires.conflict; false_ones = c.requires.false_ones })
 
-pub analyse-requires-clause-false_ones : goal.analyse-requires-clause-false_ones
-analyse-requires-clause-false_ones c = false_ones (goal.at.analyse-requires-clause-false_ones c).After-facts
+pub trace-requires-clause-false_ones : goal.trace-requires-clause-false_ones
+trace-requires-clause-false_ones c = false_ones (goal.at.trace-requires-clause-false_ones c).After-facts
 
 -- the board, the bounds and the point
 present_is : (b : Board) (n low start : ℕ) → b.ready ≡ true → 0 < n → length b.levels ≡ n → low ≤ start_of b.levels 0 → start ≡ start_of b.levels (n - 1) → IsPresent b low start
@@ -55,33 +55,33 @@ module _ (c : In_ok-push) (is : IsBoard c.self.inside.watch) (ready : c.self.ins
   here : IsPresent c.self.inside.watch c.low_of.result c.start_of.result
   here = present_is c.self.inside.watch c.levels-level.result c.low_of.result c.start_of.result ready some (sym c.levels-level.ensures) c.low_of.ensures.most c.start_of.ensures
 
-  point : IsPoint c.self.inside.watch.clauses c.self.inside.watch.past.literals c.low_of.result c.start_of.result c.in_ok-point.point c.analyse.new.aside.items
+  point : IsPoint c.self.inside.watch.clauses c.self.inside.watch.past.literals c.low_of.result c.start_of.result c.in_ok-point.point c.trace.new.aside.items
   point = c.in_ok-point.ensures.point
 
   u_is : c.negated-u.result ≡ neg_ℤ (get_or c.self.inside.watch.past.literals c.in_ok-point.point (pos 0))
   u_is = c.negated-u.ensures ∙ ap neg_ℤ c.literal.ensures
 
-  clause_is : c.push.new.self.items ≡ c.analyse.new.aside.items ++ c.negated-u.result ∷ []
+  clause_is : c.push.new.self.items ≡ c.trace.new.aside.items ++ c.negated-u.result ∷ []
   clause_is = c.in_ok-push.ensures.ok
 
-  target_is : IsTarget c.self.inside.watch.past.literals c.self.inside.watch.levels c.analyse.new.aside.items c.negated-u.result c.aim-target.result.level c.aim-target.result.second
+  target_is : IsTarget c.self.inside.watch.past.literals c.self.inside.watch.levels c.trace.new.aside.items c.negated-u.result c.aim-target.result.level c.aim-target.result.second
   target_is = subst (λ x. IsTarget c.self.inside.watch.past.literals c.self.inside.watch.levels x c.negated-u.result c.aim-target.result.level c.aim-target.result.second) c.as_slice.ensures c.aim-target.ensures
 
   over_is : AreOver c.self.inside.watch.variables c.push.new.self.items
-  over_is = subst (AreOver c.self.inside.watch.variables) (sym clause_is) (point_over c.self.inside.watch c.low_of.result c.start_of.result c.in_ok-point.point c.analyse.new.aside.items c.negated-u.result is here point u_is)
+  over_is = subst (AreOver c.self.inside.watch.variables) (sym clause_is) (point_over c.self.inside.watch c.low_of.result c.start_of.result c.in_ok-point.point c.trace.new.aside.items c.negated-u.result is here point u_is)
 
   follows_is : Follows c.self.inside.watch.clauses c.push.new.self.items
-  follows_is = subst (Follows c.self.inside.watch.clauses) (sym clause_is) (point_follows c.self.inside.watch c.low_of.result c.start_of.result c.in_ok-point.point c.analyse.new.aside.items c.negated-u.result is here point u_is (omega (arith, some, c.levels-level.ensures)))
+  follows_is = subst (Follows c.self.inside.watch.clauses) (sym clause_is) (point_follows c.self.inside.watch c.low_of.result c.start_of.result c.in_ok-point.point c.trace.new.aside.items c.negated-u.result is here point u_is (omega (arith, some, c.levels-level.ensures)))
 
   new_is : ¬ IsAbsorbed c.self.inside.watch.clauses c.push.new.self.items
-  new_is = subst (λ x. ¬ IsAbsorbed c.self.inside.watch.clauses x) (sym clause_is) (point_new c.self.inside.watch c.low_of.result c.start_of.result c.in_ok-point.point c.analyse.new.aside.items c.negated-u.result is here point u_is c.aim-target.result.level c.aim-target.result.second target_is ready)
+  new_is = subst (λ x. ¬ IsAbsorbed c.self.inside.watch.clauses x) (sym clause_is) (point_new c.self.inside.watch c.low_of.result c.start_of.result c.in_ok-point.point c.trace.new.aside.items c.negated-u.result is here point u_is c.aim-target.result.level c.aim-target.result.second target_is ready)
 
   learnt_is : IsLearnt (take (start_of c.self.inside.watch.levels c.aim-target.result.level) c.self.inside.watch.past.literals) (take c.aim-target.result.level c.self.inside.watch.levels) c.push.new.self.items c.negated-u.result c.aim-target.result.second
   learnt_is = subst (λ x. IsLearnt (take (start_of c.self.inside.watch.levels c.aim-target.result.level) c.self.inside.watch.past.literals) (take c.aim-target.result.level c.self.inside.watch.levels) x c.negated-u.result c.aim-target.result.second) (sym clause_is)
-      (point_learnt c.self.inside.watch c.low_of.result c.start_of.result c.in_ok-point.point c.analyse.new.aside.items c.negated-u.result is here point u_is c.aim-target.result.level c.aim-target.result.second target_is)
+      (point_learnt c.self.inside.watch c.low_of.result c.start_of.result c.in_ok-point.point c.trace.new.aside.items c.negated-u.result is here point u_is c.aim-target.result.level c.aim-target.result.second target_is)
 
-  step_is : (n : ℕ) → c.self.inside.log.kept ≡ true → AllWithin n c.self.inside.watch.clauses → IsStep c.self.inside.watch.clauses n (length c.self.inside.watch.clauses + 1) c.push.new.self.items (reverse c.analyse.new.hints.numbers)
-  step_is n kept within = point_step c.self.inside.watch c.low_of.result c.start_of.result c.in_ok-point.point n c.analyse.new.aside.items c.push.new.self.items c.negated-u.result (reverse c.analyse.new.hints.numbers) is here point u_is clause_is
+  step_is : (n : ℕ) → c.self.inside.log.kept ≡ true → AllWithin n c.self.inside.watch.clauses → IsStep c.self.inside.watch.clauses n (length c.self.inside.watch.clauses + 1) c.push.new.self.items (reverse c.trace.new.hints.numbers)
+  step_is n kept within = point_step c.self.inside.watch c.low_of.result c.start_of.result c.in_ok-point.point n c.trace.new.aside.items c.push.new.self.items c.negated-u.result (reverse c.trace.new.hints.numbers) is here point u_is clause_is
       (c.low_of.ensures.all (c.is_kept-2.ensures ∙ kept)) within (c.in_ok-point.ensures.chain (c.new-hints.ensures.kept ∙ c.is_kept.ensures ∙ kept))
 
 ready_is : (c : After-facts) → c.self.inside.watch.ready ≡ true
@@ -112,7 +112,7 @@ learn-requires-clause-step c = λ kept.
     let e = (goal.at.learn-requires-clause-step c).After-facts in
     let b = c.self.inside.watch in
     let n : ℕ = greatest_of (added_of c.self.inside.learnt_at.items b.clauses) in
-    let step : IsStep b.clauses n (length b.clauses + 1) c.push.new.self.items (reverse c.analyse.new.hints.numbers) = step_is d c.facts.ensures (ready_is e) (omega arith) n kept (c.self.invariant.logged kept).over in
+    let step : IsStep b.clauses n (length b.clauses + 1) c.push.new.self.items (reverse c.trace.new.hints.numbers) = step_is d c.facts.ensures (ready_is e) (omega arith) n kept (c.self.invariant.logged kept).over in
     rw (c.as_slice-2.ensures, c.numbers.ensures, c.turn.ensures) step
 
 pub returns-in_err-learn-clause-ready : goal.returns-in_err-learn-clause-ready

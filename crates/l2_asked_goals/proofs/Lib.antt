@@ -1,0 +1,4 @@
+pub mod Spots
+pub mod Literals
+pub mod Runs
+pub mod Programs

@@ -1,0 +1,4 @@
+pub mod Weights
+pub mod Missing
+pub mod Accepted
+pub mod Answering

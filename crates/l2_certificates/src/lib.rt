@@ -1,0 +1,6 @@
+//! Certificate files of points that prove.
+#![tactic(auto)]
+
+mod files;
+
+pub use files::safe_file;

@@ -1,0 +1,4 @@
+pub mod Weighing
+pub mod Ranges
+pub mod Answering
+pub mod Told

@@ -1,0 +1,4 @@
+pub mod Lists
+pub mod Fills
+pub mod Kept
+pub mod Telling

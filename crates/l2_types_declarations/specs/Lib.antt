@@ -1,0 +1,5 @@
+pub mod Forms
+pub mod Names
+pub mod Parameters
+pub mod Initialisers
+pub mod Declarations

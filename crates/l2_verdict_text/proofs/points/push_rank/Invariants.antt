@@ -1,0 +1,7 @@
+use Rattle.std.proofs.Common.{◌≡◌, ◌++◌, drop}
+use Rattle.l2_program.specs.Programs.{program_tree}
+use Rattle.l2_verdict_text.specs.Texts.{rank_text}
+use Rattle.l2_verdict_text.proofs.points.push_rank.Given as goal
+
+abbrev pub invariant-loop-i : goal.invariant-loop-i
+invariant-loop-i l = l.out.items ++ rank_text (program_tree l.program) l.number (drop l.i l.forms) ≡ l.initial.out.items ++ rank_text (program_tree l.program) l.number l.forms

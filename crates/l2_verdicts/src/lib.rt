@@ -1,0 +1,2 @@
+//! What is answered of a program: definitions alone.
+#![tactic(auto)]

@@ -1,0 +1,4 @@
+pub mod Bounds
+pub mod Decided
+pub mod Verifies
+pub mod Law

@@ -1,0 +1,4 @@
+mod Merging
+mod Rows
+mod Stepping
+mod Landing

@@ -1,0 +1,12 @@
+use Rattle.std.proofs.Common.{◌≡◌}
+use Rattle.l2_ssa.specs.Walks.{head_rows}
+use Rattle.l2_walker.specs.Made.{state_of, setting, written}
+use Rattle.l2_walk_turns.proofs.heads.head_rows.Given as goal
+
+abbrev pub invariant-loop-left : goal.invariant-loop-left
+invariant-loop-left l =
+    written (state_of l.walker) (head_rows (setting (state_of l.walker)) l.path l.back l.l l.row l.left (state_of l.walker).names (state_of l.walker).walk)
+    ≡ written (state_of l.fn.walker) (head_rows (setting (state_of l.fn.walker)) l.path l.back l.l 1 l.rows (state_of l.fn.walker).names (state_of l.fn.walker).walk)
+
+abbrev pub decreases-loop-left : goal.decreases-loop-left
+decreases-loop-left l = l.left

@@ -1,0 +1,4 @@
+pub mod States
+mod Looking
+pub mod Framing
+mod Temps
