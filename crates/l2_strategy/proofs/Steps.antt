@@ -95,9 +95,9 @@ steps_counted old asked n left' left b h k =
 pub steps_left : (old asked n left b : ℕ) → asked + 1 ≤ old + n * (1 + b) → n ≤ left → asked + 1 ≤ old + left * (1 + b)
 steps_left old asked n left b h k = let t = few_times n left (1 + b) k in omega (arith, h, t)
 
--- no question is asked, where there is one index to go on
-pub none_asked : (old n b : ℕ) → n ≡ 1 → old + 1 ≤ old + n * (1 + b)
-none_asked old n b e = let t = few_times 1 n (1 + b) (omega (arith, e)) in omega (arith, t)
+-- no question is asked
+pub none_asked : (old n b : ℕ) → 1 ≤ n → old + 1 ≤ old + n * (1 + b)
+none_asked old n b k = let t = few_times 1 n (1 + b) k in omega (arith, t)
 
 some_digits : (most b : ℕ) → 1 ≤ most → most < 2 ^ b → 1 ≤ b
 some_digits most zero h k = absurd (omega (arith, h, k))

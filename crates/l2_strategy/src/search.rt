@@ -8,8 +8,8 @@ use crate::places::Place;
 use l2_templates::{Form, Point};
 use std::alloc::{AllocError, Global};
 
-/// The same, where some run exceeds the next bound too, by binary search.
-fn halve<A: Asks>(
+/// The least index of a bound that no run exceeds, or the number of bounds, where some run exceeds that of this index.
+fn least<A: Asks>(
     alloc: Global,
     engine: &mut A,
     point: &Point,
@@ -40,16 +40,17 @@ fn halve<A: Asks>(
     Ok(low)
 }
 
-/// The least index of a bound that no run exceeds, or the number of bounds, where some run exceeds that of this index. It asks of
-/// the next bound first, since that is mostly the one. With the question before it takes 1 + b questions for each index that it goes
-/// on, at most.
-fn least<A: Asks>(
+/// An index of a bound behind this one, which some run exceeds: that of the least bound that no run exceeds, or the number of bounds;
+/// but the next one, where the row is slow, without a question. It asks of the next bound first, since that is mostly the one. With the
+/// question before it takes 1 + b questions for each index that it goes on, at most.
+fn rise<A: Asks>(
     alloc: Global,
     engine: &mut A,
     point: &Point,
     broken: BrokenRow,
     bounds: &[i128],
     from: usize,
+    slow: bool,
 ) -> Result<usize, AllocError>
     requires rises { Rises bounds.now }
     requires inside { from < length bounds.now }
@@ -63,13 +64,16 @@ fn least<A: Asks>(
     ensures exceeded { IfOk result (λ j. A.exceeds (A.problem engine.old) point.now broken.at broken.row (slice_index_or bounds.now (j - 1) (pos 0))) }
 {
     let next = from + 1;
+    if slow {
+        return Ok(next);
+    }
     if next == bounds.len() {
         return Ok(next);
     }
     if !engine.row(alloc, point, broken, bounds[next])? {
         return Ok(next);
     }
-    halve(alloc, engine, point, broken, bounds, next)
+    least(alloc, engine, point, broken, bounds, next)
 }
 
 /// The point at which the search stands.
@@ -98,7 +102,7 @@ fn bottom(alloc: Global, forms: &[Vec<Form>]) -> Result<Vec<Place>, AllocError>
 }
 
 /// The search one step on, where some run fails this row of the point at which it stands: a loop leaves Bottom, or a row
-/// takes the least bound that no run exceeds.
+/// takes a bound behind its own.
 fn raise<A: Asks>(
     alloc: Global,
     engine: &mut A,
@@ -125,7 +129,8 @@ fn raise<A: Asks>(
     }
     let r = broken.row as usize - 1;
     let from = places[i].index(r);
-    let to = least(alloc, engine, point, broken, bounds, from)?;
+    let slow = places[i].is_slow(r);
+    let to = rise(alloc, engine, point, broken, bounds, from, slow)?;
     places[i].raise(r, to);
     Ok(())
 }

@@ -1,4 +1,4 @@
-use Rattle.std.proofs.Common.{◌<◌, ◌-◌, pos, true, length, refl, sym, ap, ◌∙◌, subst, arith}
+use Rattle.std.proofs.Common.{◌<◌, ◌-◌, pos, true, length, sym, ap, ◌∙◌, subst, arith}
 use Rattle.std.specs.Prelude.{slice_index_or, slice_set}
 use Rattle.l2_strategy.specs.Asking.{IsAskable}
 use Rattle.l2_strategy.specs.Places.{Spot}
@@ -48,7 +48,7 @@ pub returns-then-not-is_reached-clause-counted : goal.returns-then-not-is_reache
 returns-then-not-is_reached-clause-counted g c = λ b h. step_counted (g.A.Asks.asked c.args.engine.now) _ _ b (reach g c).left
 
 pub returns-then-not-is_reached-clause-asked : goal.returns-then-not-is_reached-clause-asked
-returns-then-not-is_reached-clause-asked g c = λ b h. let k = (reach g c).left in steps_left (g.A.Asks.asked c.args.engine.now) _ 1 _ b (none_asked _ 1 b refl) (omega (arith, k))
+returns-then-not-is_reached-clause-asked g c = λ b h. let k = (reach g c).left in steps_left (g.A.Asks.asked c.args.engine.now) _ 1 _ b (none_asked _ 1 b (omega arith)) (omega (arith, k))
 
 pub returns-clause-counted : goal.returns-clause-counted
 returns-clause-counted g c = λ b h. steps_counted (g.A.Asks.asked c.args.engine.now) _ (c.in_ok-to.to - c.index-from.result) _ _ b (c.in_ok-to.ensures.counted b h) (lift g c).left
@@ -63,8 +63,8 @@ returns-in_err-to-clause-asked g c = λ b h. steps_left (g.A.Asks.asked c.args.e
     (steps_there c.args.bounds.now (g.A.Asks.exceeds (g.A.Asks.problem c.args.engine.now) c.args.point.now) c.args.places.now.items c.args.point.now c.args.broken.at c.args.broken.row c.index.result.now c.index-2.result.now
     c.requires.point c.requires.failed c.index.ensures c.index-2.ensures c.if-not-is_reached.ensures c.index-from.result c.index-from.ensures)
 
-pub least-requires-clause-askable : goal.least-requires-clause-askable
-least-requires-clause-askable g c =
+pub rise-requires-clause-askable : goal.rise-requires-clause-askable
+rise-requires-clause-askable g c =
     let k = can_ask c.args.bounds.now (g.A.Asks.exceeds (g.A.Asks.problem c.args.engine.now) c.args.point.now) c.args.places.now.items c.args.point.now c.args.broken.at c.args.broken.row c.index.result.now c.index-2.result.now
     c.requires.point c.requires.failed c.index.ensures c.index-2.ensures c.if-not-is_reached.ensures in
     subst (λ j. IsAskable c.args.point.now c.args.broken.at c.args.broken.row (slice_index_or c.args.bounds.now j (pos 0))) (sym c.index-from.ensures) k
@@ -88,14 +88,14 @@ index-from-requires g c =
     (can c.args.bounds.now (g.A.Asks.exceeds (g.A.Asks.problem c.args.engine.now) c.args.point.now) c.args.places.now.items c.args.point.now c.args.broken.at c.args.broken.row c.index.result.now c.index-2.result.now
     c.requires.point c.requires.failed c.index.ensures c.index-2.ensures c.if-not-is_reached.ensures).inside
 
-pub least-requires-clause-inside : goal.least-requires-clause-inside
-least-requires-clause-inside g c =
+pub rise-requires-clause-inside : goal.rise-requires-clause-inside
+rise-requires-clause-inside g c =
     let k = can c.args.bounds.now (g.A.Asks.exceeds (g.A.Asks.problem c.args.engine.now) c.args.point.now) c.args.places.now.items c.args.point.now c.args.broken.at c.args.broken.row c.index.result.now c.index-2.result.now
     c.requires.point c.requires.failed c.index.ensures c.index-2.ensures c.if-not-is_reached.ensures in
     subst (λ j. j < length c.args.bounds.now) (sym c.index-from.ensures) k.bounded
 
-pub least-requires-clause-exceeded : goal.least-requires-clause-exceeded
-least-requires-clause-exceeded g c =
+pub rise-requires-clause-exceeded : goal.rise-requires-clause-exceeded
+rise-requires-clause-exceeded g c =
     let k = can c.args.bounds.now (g.A.Asks.exceeds (g.A.Asks.problem c.args.engine.now) c.args.point.now) c.args.places.now.items c.args.point.now c.args.broken.at c.args.broken.row c.index.result.now c.index-2.result.now
     c.requires.point c.requires.failed c.index.ensures c.index-2.ensures c.if-not-is_reached.ensures in
     subst (λ j. g.A.Asks.exceeds (g.A.Asks.problem c.args.engine.now) c.args.point.now c.args.broken.at c.args.broken.row (slice_index_or c.args.bounds.now j (pos 0))) (sym c.index-from.ensures) k.exceeded

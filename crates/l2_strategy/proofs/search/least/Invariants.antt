@@ -1,6 +1,6 @@
 use Rattle.std.proofs.Common.{◌-◌}
 use Rattle.l2_strategy.proofs.Steps.{IsHalving}
-use Rattle.l2_strategy.proofs.search.halve.Given as goal
+use Rattle.l2_strategy.proofs.search.least.Given as goal
 
 abbrev pub invariant-loop-low : goal.invariant-loop-low
 invariant-loop-low g l =
