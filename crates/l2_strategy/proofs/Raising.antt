@@ -1,5 +1,5 @@
 -- The search stays below each point that infers.
-use Rattle.std.proofs.Common.{◌≡◌, ℕ, zero, suc, ◌-◌, ◌<◌, ◌≤◌, Bool, true, false, ℤ, pos, ◌≤ℤ◌, ◌<ℤ◌, List, [], ◌∷◌, length, get_or, map, replicate, Option, Some, None, refl, sym, ap, ◌∙◌, subst, if◌then◌else◌, arith}
+use Rattle.std.proofs.Common.{◌≡◌, ℕ, zero, suc, ◌+◌, ◌-◌, ◌<◌, ◌≤◌, Bool, true, false, ℤ, pos, ◌≤ℤ◌, ◌<ℤ◌, List, [], ◌∷◌, length, get_or, map, replicate, Option, Some, None, refl, sym, ap, ◌∙◌, subst, if◌then◌else◌, arith}
 use Rattle.std.specs.Prelude.{slice_get, slice_set, slice_index_or}
 use Rattle.std.specs.List.{Contains}
 use Rattle.std.proofs.lemmas.Int.{ints}
@@ -208,13 +208,13 @@ left_reach most [] i d lt e = absurd (omega (arith, lt))
 left_reach most (x ∷ xs) zero d lt e = let s : cost x.reached ≡ cost false = ap cost e in omega (arith, s)
 left_reach most (x ∷ xs) (suc i) d lt e = let k = left_reach most xs i d (omega (arith, lt)) e in omega (arith, k)
 
-left_index : (most : ℕ) (is : List ℕ) (r j : ℕ) → r < length is → slice_index_or is r 0 < j → j ≤ most → left_of most (slice_set is r j) < left_of most is
+left_index : (most : ℕ) (is : List ℕ) (r j : ℕ) → r < length is → slice_index_or is r 0 < j → j ≤ most → left_of most (slice_set is r j) + (j - slice_index_or is r 0) ≤ left_of most is
 left_index most [] r j lt up le = absurd (omega (arith, lt))
 left_index most (i ∷ is) zero j lt up le = omega (arith, up, le)
 left_index most (i ∷ is) (suc r) j lt up le = let k = left_index most is r j (omega (arith, lt)) up le in omega (arith, k)
 
 left_raise : (most : ℕ) (spots : List Spot) (i : ℕ) (d : Spot) (r j : ℕ) → i < length spots → r < length (slice_index_or spots i d).indexes → slice_index_or (slice_index_or spots i d).indexes r 0 < j → j ≤ most →
-    left most (slice_set spots i (record (slice_index_or spots i d) { indexes = slice_set (slice_index_or spots i d).indexes r j })) < left most spots
+    left most (slice_set spots i (record (slice_index_or spots i d) { indexes = slice_set (slice_index_or spots i d).indexes r j })) + (j - slice_index_or (slice_index_or spots i d).indexes r 0) ≤ left most spots
 left_raise most [] i d r j lt inside up le = absurd (omega (arith, lt))
 left_raise most (x ∷ xs) zero d r j lt inside up le = let k = left_index most x.indexes r j inside up le in omega (arith, k)
 left_raise most (x ∷ xs) (suc i) d r j lt inside up le = let k = left_raise most xs i d r j (omega (arith, lt)) inside up le in omega (arith, k)
@@ -361,27 +361,28 @@ failed_at bounds spots d Exceeds q (suc i) row e h =
 
 -- ---- steps
 
-pub record Stepped (Infers : List LoopPoint → Type 0) (bounds : List ℤ) (old new : List Spot) : Type 0 where
+-- the search goes on by so many steps
+pub record Stepped (Infers : List LoopPoint → Type 0) (bounds : List ℤ) (old new : List Spot) (steps : ℕ) : Type 0 where
   pub searching : IsSearching Infers bounds new
   pub forms : forms_of new ≡ forms_of old
-  pub left : left (length bounds) new < left (length bounds) old
+  pub left : left (length bounds) new + steps ≤ left (length bounds) old
 
 module _ (bounds : List ℤ) (rises : Rises bounds) (Infers : List LoopPoint → Type 0) (Exceeds : List LoopPoint → ℕ → ℕ → ℤ → Type 0) (lower_law : (q : List LoopPoint) (l row : ℕ) (a b : ℤ) → b ≤ℤ a → Exceeds q l row a → Exceeds q l row b) (below_law : (a b : List LoopPoint) → AreAlike a b → IsStronger a b → Infers b → (l row : ℕ) (above : ℤ) → IsBounded (point_at b l) row above → ¬ Exceeds a l row above) (spots : List Spot) (searching : IsSearching Infers bounds spots) where
   reach_at : (i row : ℕ) (d : Spot) → i < length spots → IsFailedAt (Exceeds (point_of bounds spots) (suc i)) (spot_point bounds (slice_index_or spots i d)) row → (slice_index_or spots i d).reached ≡ false →
-      Stepped Infers bounds spots (slice_set spots i (record (slice_index_or spots i d) { reached = true }))
+      Stepped Infers bounds spots (slice_set spots i (record (slice_index_or spots i d) { reached = true })) 1
   reach_at i row d lt fails no' = record {
     searching = record {
       fit = set_fit spots i (record (slice_index_or spots i d) { reached = true }) (searching.fit i d lt) searching.fit;
       below = λ q of infers. reached_below bounds rises Infers Exceeds lower_law below_law spots searching i d (fails_bottom bounds (Exceeds (point_of bounds spots) (suc i)) (slice_index_or spots i d) row no' fails) q (subst (λ a. AreOf bounds a q) same of) infers;
     };
     forms = same;
-    left = left_reach (length bounds) spots i d lt no';
+    left = (let k = left_reach (length bounds) spots i d lt no' in omega (arith, k));
   }
     where
       same : forms_of (slice_set spots i (record (slice_index_or spots i d) { reached = true })) ≡ forms_of spots
       same = same_forms spots i (record (slice_index_or spots i d) { reached = true }) d refl
 
-  pub reach_step : (d s' : Spot) (q : List LoopPoint) (l row : ℕ) → q ≡ point_of bounds spots → IsFailed (Exceeds q) q l row → s' ≡ record (slice_index_or spots (l - 1) d) { reached = true } → (slice_index_or spots (l - 1) d).reached ≡ false → Stepped Infers bounds spots (slice_set spots (l - 1) s')
+  pub reach_step : (d s' : Spot) (q : List LoopPoint) (l row : ℕ) → q ≡ point_of bounds spots → IsFailed (Exceeds q) q l row → s' ≡ record (slice_index_or spots (l - 1) d) { reached = true } → (slice_index_or spots (l - 1) d).reached ≡ false → Stepped Infers bounds spots (slice_set spots (l - 1) s') 1
   reach_step d s' q zero row e failed is no' = let c = failed.some in absurd (omega (arith, c))
   reach_step d s' q (suc i) row e failed is no' =
       let at' = failed_at bounds spots d (Exceeds q) q (suc i) row e failed in
@@ -389,11 +390,11 @@ module _ (bounds : List ℤ) (rises : Rises bounds) (Infers : List LoopPoint →
       let fails = subst (λ j. IsFailedAt (Exceeds q (suc i)) (spot_point bounds (slice_index_or spots j d)) row) n at'.1 in
       let here = subst (λ x. IsFailedAt (Exceeds x (suc i)) (spot_point bounds (slice_index_or spots i d)) row) e fails in
       let no'' = subst (λ j. (slice_index_or spots j d).reached ≡ false) n no' in
-      subst (λ x. Stepped Infers bounds spots (slice_set spots (suc i - 1) x)) (sym is)
-      (subst (λ j. Stepped Infers bounds spots (slice_set spots j (record (slice_index_or spots j d) { reached = true }))) (sym n) (reach_at i row d (omega (arith, at'.0)) here no''))
+      subst (λ x. Stepped Infers bounds spots (slice_set spots (suc i - 1) x) 1) (sym is)
+      (subst (λ j. Stepped Infers bounds spots (slice_set spots j (record (slice_index_or spots j d) { reached = true })) 1) (sym n) (reach_at i row d (omega (arith, at'.0)) here no''))
 
   raise_at : (i r j : ℕ) (d : Spot) → i < length spots → r < length (slice_index_or spots i d).indexes → slice_index_or (slice_index_or spots i d).indexes r 0 < j → j ≤ length bounds → Exceeds (point_of bounds spots) (suc i) (suc r) (slice_index_or bounds (j - 1) (pos 0)) →
-      Stepped Infers bounds spots (slice_set spots i (record (slice_index_or spots i d) { indexes = slice_set (slice_index_or spots i d).indexes r j }))
+      Stepped Infers bounds spots (slice_set spots i (record (slice_index_or spots i d) { indexes = slice_set (slice_index_or spots i d).indexes r j })) (j - slice_index_or (slice_index_or spots i d).indexes r 0)
   raise_at i r j d lt inside up most exceeds = record {
     searching = record {
       fit = set_fit spots i (record (slice_index_or spots i d) { indexes = slice_set (slice_index_or spots i d).indexes r j }) d' searching.fit;
@@ -413,7 +414,7 @@ module _ (bounds : List ℤ) (rises : Rises bounds) (Infers : List LoopPoint →
   raisable d q l row e failed yes' = fails_row bounds (Exceeds q l) (slice_index_or spots (l - 1) d) row yes' (failed_at bounds spots d (Exceeds q) q l row e failed).1
 
   pub raise_step : (d s' : Spot) (q : List LoopPoint) (l row j : ℕ) → q ≡ point_of bounds spots → IsFailed (Exceeds q) q l row → (slice_index_or spots (l - 1) d).reached ≡ true → slice_index_or (slice_index_or spots (l - 1) d).indexes (row - 1) 0 < j → j ≤ length bounds → Exceeds q l row (slice_index_or bounds (j - 1) (pos 0)) →
-      s' ≡ record (slice_index_or spots (l - 1) d) { indexes = slice_set (slice_index_or spots (l - 1) d).indexes (row - 1) j } → Stepped Infers bounds spots (slice_set spots (l - 1) s')
+      s' ≡ record (slice_index_or spots (l - 1) d) { indexes = slice_set (slice_index_or spots (l - 1) d).indexes (row - 1) j } → Stepped Infers bounds spots (slice_set spots (l - 1) s') (j - slice_index_or (slice_index_or spots (l - 1) d).indexes (row - 1) 0)
   raise_step d s' q zero row j e failed yes' up most exceeds is = let c = failed.some in absurd (omega (arith, c))
   raise_step d s' q (suc i) zero j e failed yes' up most exceeds is = let c = (raisable d q (suc i) zero e failed yes').some in absurd (omega (arith, c))
   raise_step d s' q (suc i) (suc r) j e failed yes' up most exceeds is =
@@ -424,9 +425,9 @@ module _ (bounds : List ℤ) (rises : Rises bounds) (Infers : List LoopPoint →
       let inside : r < length (slice_index_or spots i d).indexes = subst (λ y. y < length (slice_index_or spots i d).indexes) m (subst (λ x. suc r - 1 < length (slice_index_or spots x d).indexes) n can.inside) in
       let up' : slice_index_or (slice_index_or spots i d).indexes r 0 < j = subst (λ y. slice_index_or (slice_index_or spots i d).indexes y 0 < j) m (subst (λ x. slice_index_or (slice_index_or spots x d).indexes (suc r - 1) 0 < j) n up) in
       let here : Exceeds (point_of bounds spots) (suc i) (suc r) (slice_index_or bounds (j - 1) (pos 0)) = subst (λ x. Exceeds x (suc i) (suc r) (slice_index_or bounds (j - 1) (pos 0))) e exceeds in
-      subst (λ x. Stepped Infers bounds spots (slice_set spots (suc i - 1) x)) (sym is)
-      (subst (λ x. Stepped Infers bounds spots (slice_set spots x (record (slice_index_or spots x d) { indexes = slice_set (slice_index_or spots x d).indexes (suc r - 1) j }))) (sym n)
-      (subst (λ y. Stepped Infers bounds spots (slice_set spots i (record (slice_index_or spots i d) { indexes = slice_set (slice_index_or spots i d).indexes y j }))) (sym m)
+      subst (λ x. Stepped Infers bounds spots (slice_set spots (suc i - 1) x) (j - slice_index_or (slice_index_or spots (suc i - 1) d).indexes (suc r - 1) 0)) (sym is)
+      (subst (λ x. Stepped Infers bounds spots (slice_set spots x (record (slice_index_or spots x d) { indexes = slice_set (slice_index_or spots x d).indexes (suc r - 1) j })) (j - slice_index_or (slice_index_or spots x d).indexes (suc r - 1) 0)) (sym n)
+      (subst (λ y. Stepped Infers bounds spots (slice_set spots i (record (slice_index_or spots i d) { indexes = slice_set (slice_index_or spots i d).indexes y j })) (j - slice_index_or (slice_index_or spots i d).indexes y 0)) (sym m)
       (raise_at i r j d (omega (arith, at'.0)) inside up' most here)))
 
 pub spot_same : (spots : List Spot) (i : ℕ) (a b : Spot) → i < length spots → a ≡ slice_index_or spots i a → b ≡ slice_index_or spots i b → a ≡ b
@@ -457,14 +458,21 @@ can_ask bounds Exceeds spots q l row seen again e failed es ea r = record {
     bound Bottom h = (h.0, (λ a. tt))
     bound (Rows rows) h = (h.0, h.1, h.1)
 
--- something is left to raise
-some_index : (most : ℕ) (is : List ℕ) (r : ℕ) → r < length is → slice_index_or is r 0 < most → 1 ≤ left_of most is
-some_index most [] r h k = absurd (omega (arith, h))
-some_index most (i ∷ is) zero h k = omega (arith, k)
-some_index most (i ∷ is) (suc r) h k = let e = some_index most is r (omega (arith, h)) k in omega (arith, e)
+-- so much is left to raise
+some_index : (most : ℕ) (is : List ℕ) (r : ℕ) → r < length is → most - slice_index_or is r 0 ≤ left_of most is
+some_index most [] r h = absurd (omega (arith, h))
+some_index most (i ∷ is) zero h = omega arith
+some_index most (i ∷ is) (suc r) h = let e = some_index most is r (omega (arith, h)) in omega (arith, e)
 
-pub some_raise : (most : ℕ) (spots : List Spot) (i : ℕ) (s : Spot) (r : ℕ) → i < length spots → s ≡ slice_index_or spots i s → r < length s.indexes → slice_index_or s.indexes r 0 < most → 1 ≤ left most spots
-some_raise most [] i s r h e inside less = absurd (omega (arith, h))
-some_raise most (x ∷ xs) zero s r h e inside less =
-    let k = some_index most x.indexes r (subst (λ (y : Spot). r < length y.indexes) e inside) (subst (λ (y : Spot). slice_index_or y.indexes r 0 < most) e less) in omega (arith, k)
-some_raise most (x ∷ xs) (suc i) s r h e inside less = let k = some_raise most xs i s r (omega (arith, h)) e inside less in omega (arith, k)
+pub some_raise : (most : ℕ) (spots : List Spot) (i : ℕ) (s : Spot) (r : ℕ) → i < length spots → s ≡ slice_index_or spots i s → r < length s.indexes → most - slice_index_or s.indexes r 0 ≤ left most spots
+some_raise most [] i s r h e inside = absurd (omega (arith, h))
+some_raise most (x ∷ xs) zero s r h e inside =
+    let k : most - slice_index_or s.indexes r 0 ≤ left_of most x.indexes = subst (λ (y : Spot). most - slice_index_or s.indexes r 0 ≤ left_of most y.indexes) e (some_index most s.indexes r inside) in omega (arith, k)
+some_raise most (x ∷ xs) (suc i) s r h e inside = let k = some_raise most xs i s r (omega (arith, h)) e inside in omega (arith, k)
+
+-- as often as a row of a place that was seen twice can be raised
+pub steps_there : (bounds : List ℤ) (Exceeds : ℕ → ℕ → ℤ → Type 0) (spots : List Spot) (q : List LoopPoint) (l row : ℕ) (seen again : Spot) → q ≡ point_of bounds spots → IsFailed Exceeds q l row →
+    seen ≡ slice_index_or spots (l - 1) seen → again ≡ slice_index_or spots (l - 1) again → true ≡ seen.reached → (from : ℕ) → from ≡ slice_index_or again.indexes (row - 1) 0 → length bounds - from ≤ left (length bounds) spots
+steps_there bounds Exceeds spots q l row seen again e failed es ea r from is =
+    subst (λ n. length bounds - n ≤ left (length bounds) spots) (sym is)
+    (some_raise (length bounds) spots (l - 1) again (row - 1) (failed_at bounds spots again Exceeds q l row e failed).0 ea (can bounds Exceeds spots q l row seen again e failed es ea r).inside)

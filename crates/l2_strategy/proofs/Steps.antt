@@ -1,9 +1,9 @@
 -- What the binary search keeps.
-use Rattle.std.proofs.Common.{zero, suc, ◌+◌, ◌*◌, ◌/◌, ◌^◌, refl, sym, ap, ◌∙◌, subst, arith}
+use Rattle.std.proofs.Common.{Result, Ok, Err, zero, suc, ◌+◌, ◌*◌, ◌/◌, ◌^◌, refl, sym, ap, ◌∙◌, subst, arith}
 use Rattle.std.proofs.lemmas.Nat.{pow-add}
 use Rattle.std.proofs.lemmas.Int.{ints}
 use Rattle.std.proofs.lemmas.List.Sums.{sum_by-cons}
-use Rattle.std.specs.Prelude.{sum_by, replicate, ◌≡◌, ℕ, ◌<◌, ◌≤◌, ◌-◌, ℤ, pos, ◌≤ℤ◌, List, [], ◌∷◌, length, map, slice_index_or, Option, None, MatchOption}
+use Rattle.std.specs.Prelude.{sum_by, replicate, ◌≡◌, ℕ, ◌<◌, ◌≤◌, ◌-◌, ℤ, pos, ◌≤ℤ◌, List, [], ◌∷◌, length, map, slice_index_or, Option, None, MatchOption, IfOk}
 use Rattle.l2_templates.specs.declared.form.Form.{Form}
 use Rattle.l2_templates.specs.declared.point.LoopPoint.{LoopPoint}
 use Rattle.l2_strategy.specs.Asking.{IsAskable}
@@ -64,18 +64,57 @@ pub record IsCounted (start now steps left most : ℕ) : Type 0 where
 pub counted_first : (start steps most : ℕ) → IsCounted start start steps steps most
 counted_first start steps most = record { count = λ b h. omega arith }
 
--- a point is asked, and then a row at most so often
-pub counted_next : (start now one two steps few less most : ℕ) → IsCounted start now steps few most → one ≤ now + 1 → ((b : ℕ) → most < 2 ^ b → two ≤ one + b) → less < few → IsCounted start two steps less most
-counted_next start now one two steps few less most c asked rows fewer = record {
-  count = λ b h. let t = less_times less few (1 + b) fewer in let k = c.count b h in let r = rows b h in omega (arith, t, k, r, asked);
-}
+-- a point is asked, and then rows
+pub counted_next : (start now one two steps few less most : ℕ) → IsCounted start now steps few most → one ≤ now + 1 → ((b : ℕ) → most < 2 ^ b → two + 1 + less * (1 + b) ≤ one + few * (1 + b)) → IsCounted start two steps less most
+counted_next start now one two steps few less most c asked rows = record { count = λ b h. let k = c.count b h in let r = rows b h in omega (arith, k, r, asked) }
 
 pub counted_last : (start now one steps few most : ℕ) → IsCounted start now steps few most → one ≤ now + 1 → (b : ℕ) → most < 2 ^ b → one ≤ start + 1 + steps * (1 + b)
 counted_last start now one steps few most c asked b h = let k = c.count b h in omega (arith, k, asked)
 
-pub counted_stop : (start now one two steps few most : ℕ) → IsCounted start now steps few most → one ≤ now + 1 → ((b : ℕ) → most < 2 ^ b → two ≤ one + b) → 1 ≤ few → (b : ℕ) → most < 2 ^ b → two ≤ start + 1 + steps * (1 + b)
-counted_stop start now one two steps few most c asked rows some b h =
-    let t = less_times 0 few (1 + b) (omega (arith, some)) in let k = c.count b h in let r = rows b h in omega (arith, t, k, r, asked)
+pub counted_stop : (start now one two steps few most : ℕ) → IsCounted start now steps few most → one ≤ now + 1 → ((b : ℕ) → most < 2 ^ b → two + 1 ≤ one + few * (1 + b)) → (b : ℕ) → most < 2 ^ b → two ≤ start + 1 + steps * (1 + b)
+counted_stop start now one two steps few most c asked rows b h = let k = c.count b h in let r = rows b h in omega (arith, k, r, asked)
+
+-- ---- questions of a step
+
+-- one step costs what it is left less
+pub step_counted : (asked left' left b : ℕ) → left' + 1 ≤ left → asked + 1 + left' * (1 + b) ≤ asked + left * (1 + b)
+step_counted asked left' left b h = let t = less_times left' left (1 + b) (omega (arith, h)) in omega (arith, t)
+
+few_times : (m n c : ℕ) → m ≤ n → m * c ≤ n * c
+few_times m n c h =
+    let d : ℕ = n - m in
+    let e : n ≡ m + d = omega (arith, h) in
+    let k : n * c ≡ m * c + d * c = ap (λ x. x * c) e ∙ grind arith in omega (arith, k)
+
+-- so do several
+pub steps_counted : (old asked n left' left b : ℕ) → asked + 1 ≤ old + n * (1 + b) → left' + n ≤ left → asked + 1 + left' * (1 + b) ≤ old + left * (1 + b)
+steps_counted old asked n left' left b h k =
+    let t = few_times (left' + n) left (1 + b) k in
+    let e : (left' + n) * (1 + b) ≡ left' * (1 + b) + n * (1 + b) = grind arith in omega (arith, h, t, e)
+
+pub steps_left : (old asked n left b : ℕ) → asked + 1 ≤ old + n * (1 + b) → n ≤ left → asked + 1 ≤ old + left * (1 + b)
+steps_left old asked n left b h k = let t = few_times n left (1 + b) k in omega (arith, h, t)
+
+-- no question is asked
+pub none_asked : (old n b : ℕ) → 1 ≤ n → old + 1 ≤ old + n * (1 + b)
+none_asked old n b k = let t = few_times 1 n (1 + b) k in omega (arith, t)
+
+some_digits : (most b : ℕ) → 1 ≤ most → most < 2 ^ b → 1 ≤ b
+some_digits most zero h k = absurd (omega (arith, h, k))
+some_digits most (suc b) h k = omega arith
+
+-- one question is
+pub one_asked : (old asked n most b : ℕ) → asked ≤ old + 1 → 1 ≤ n → 1 ≤ most → most < 2 ^ b → asked + 1 ≤ old + n * (1 + b)
+one_asked old asked n most b h k some few =
+    let t = few_times 1 n (1 + b) k in let d = some_digits most b some few in omega (arith, h, t, d)
+
+-- one is, and then those of a binary search
+pub all_asked : (old one asked n b : ℕ) → one ≤ old + 1 → asked ≤ one + b → 2 ≤ n → asked + 1 ≤ old + n * (1 + b)
+all_asked old one asked n b h k two = let t = few_times 2 n (1 + b) two in omega (arith, h, k, t)
+
+pub all_counted : {E : Type 0} (r : Result ℕ E) (from old one asked most : ℕ) → IfOk r (λ j. from + 1 < j) → one ≤ old + 1 → ((b : ℕ) → most < 2 ^ b → asked ≤ one + b) → IfOk r (λ j. (b : ℕ) → most < 2 ^ b → asked + 1 ≤ old + (j - from) * (1 + b))
+all_counted (Err e) from old one asked most later h rows = tt
+all_counted (Ok j) from old one asked most later h rows = λ b few. all_asked old one asked (j - from) b h (rows b few) (omega (arith, later))
 
 left_none : (most n : ℕ) → left_of most (replicate n 0) ≡ n * most
 left_none most zero = omega arith

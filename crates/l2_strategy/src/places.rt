@@ -11,6 +11,8 @@ use std::marker::Model;
 pub struct Place {
     forms: Vec<Form>,
     indexes: Vec<usize>,
+    /// For each row how often it rose by one index alone since it last rose by more. What is found doesn't depend on it.
+    single: Vec<u32>,
     reached: bool,
 }
 
@@ -20,6 +22,12 @@ impl Model for Place {
     ghost Value = { Spot };
 
     ghost view = { λ a. record { forms = a.forms.items; indexes = a.indexes.items; reached = a.reached } };
+}
+
+/// Whether a row that so often rose by one index is likely to do so once more. From time to time it isn't said to, so that what rises
+/// far is found out: where the number is 0 or a power of two.
+fn is_slow(single: u32) -> bool {
+    single > 0 && single & (single - 1) != 0
 }
 
 fn bound_at(bounds: &[i128], i: usize) -> Option<i128>
@@ -36,9 +44,12 @@ impl Place {
         let forms = Vec::from_slice(alloc, forms)?;
         let mut indexes = Vec::new(alloc);
         indexes.resize(forms.len(), 0)?;
+        let mut single = Vec::new(alloc);
+        single.resize(forms.len(), 0)?;
         Ok(Place {
             forms,
             indexes,
+            single,
             reached: false,
         })
     }
@@ -73,16 +84,40 @@ impl Place {
         self.indexes[i]
     }
 
+    /// Whether a row is likely to rise by one index alone.
+    pub fn is_slow(&self, i: usize) -> bool {
+        match self.single.get(i) {
+            Some(single) => is_slow(*single),
+            None => false,
+        }
+    }
+
     pub fn reach(&mut self)
         ensures { self.new ≡ record self.old { reached = true } }
     {
         self.reached = true;
     }
 
+    /// Notes by how much a row rises.
+    fn note(&mut self, i: usize, index: usize)
+        ensures { self.new ≡ self.old }
+    {
+        if i >= self.single.len() || i >= self.indexes.len() {
+            return;
+        }
+        let from = self.indexes[i];
+        self.single[i] = if from < index && index - from == 1 {
+            self.single[i].saturating_add(1)
+        } else {
+            0
+        };
+    }
+
     pub fn raise(&mut self, i: usize, index: usize)
         requires { i < length self.old.indexes }
         ensures { self.new ≡ record self.old { indexes = slice_set self.old.indexes i index } }
     {
+        self.note(i, index);
         self.indexes[i] = index;
     }
 }

@@ -40,6 +40,42 @@ fn least<A: Asks>(
     Ok(low)
 }
 
+/// An index of a bound behind this one, which some run exceeds: that of the least bound that no run exceeds, or the number of bounds;
+/// but the next one, where the row is slow, without a question. It asks of the next bound first, since that is mostly the one. With the
+/// question before it takes 1 + b questions for each index that it goes on, at most.
+fn rise<A: Asks>(
+    alloc: Global,
+    engine: &mut A,
+    point: &Point,
+    broken: BrokenRow,
+    bounds: &[i128],
+    from: usize,
+    slow: bool,
+) -> Result<usize, AllocError>
+    requires rises { Rises bounds.now }
+    requires inside { from < length bounds.now }
+    requires askable { IsAskable point.now broken.at broken.row (slice_index_or bounds.now from (pos 0)) }
+    requires exceeded { A.exceeds (A.problem engine.old) point.now broken.at broken.row (slice_index_or bounds.now from (pos 0)) }
+    ensures same { A.problem engine.new ≡ A.problem engine.old }
+    ensures asked { (b : ℕ) → length bounds.now < 2 ^ b → A.asked engine.new + 1 ≤ A.asked engine.old + (length bounds.now - from) * (1 + b) }
+    ensures counted { IfOk result (λ j. (b : ℕ) → length bounds.now < 2 ^ b → A.asked engine.new + 1 ≤ A.asked engine.old + (j - from) * (1 + b)) }
+    ensures later { IfOk result (λ j. from < j) }
+    ensures within { IfOk result (λ j. j ≤ length bounds.now) }
+    ensures exceeded { IfOk result (λ j. A.exceeds (A.problem engine.old) point.now broken.at broken.row (slice_index_or bounds.now (j - 1) (pos 0))) }
+{
+    let next = from + 1;
+    if slow {
+        return Ok(next);
+    }
+    if next == bounds.len() {
+        return Ok(next);
+    }
+    if !engine.row(alloc, point, broken, bounds[next])? {
+        return Ok(next);
+    }
+    least(alloc, engine, point, broken, bounds, next)
+}
+
 /// The point at which the search stands.
 fn point_of(alloc: Global, places: &[Place], bounds: &[i128]) -> Result<Point, AllocError>
     requires { AreFit places.now }
@@ -66,7 +102,7 @@ fn bottom(alloc: Global, forms: &[Vec<Form>]) -> Result<Vec<Place>, AllocError>
 }
 
 /// The search one step on, where some run fails this row of the point at which it stands: a loop leaves Bottom, or a row
-/// takes the least bound that no run exceeds.
+/// takes a bound behind its own.
 fn raise<A: Asks>(
     alloc: Global,
     engine: &mut A,
@@ -80,8 +116,8 @@ fn raise<A: Asks>(
     requires point { point.now ≡ point_of bounds.now places.old.items }
     requires failed { IsFailed (A.exceeds (A.problem engine.old) point.now) point.now broken.at broken.row }
     ensures same { A.problem engine.new ≡ A.problem engine.old }
-    ensures asked { (b : ℕ) → length bounds.now < 2 ^ b → A.asked engine.new ≤ A.asked engine.old + b }
-    ensures some { 1 ≤ left (length bounds.now) places.old.items }
+    ensures asked { (b : ℕ) → length bounds.now < 2 ^ b → A.asked engine.new + 1 ≤ A.asked engine.old + left (length bounds.now) places.old.items * (1 + b) }
+    ensures counted { OnOk result ((b : ℕ) → length bounds.now < 2 ^ b → A.asked engine.new + 1 + left (length bounds.now) places.new.items * (1 + b) ≤ A.asked engine.old + left (length bounds.now) places.old.items * (1 + b)) }
     ensures searching { OnOk result (IsSearching (A.infers (A.problem engine.old)) bounds.now places.new.items) }
     ensures forms { OnOk result (forms_of places.new.items ≡ forms_of places.old.items) }
     ensures left { OnOk result (left (length bounds.now) places.new.items < left (length bounds.now) places.old.items) }
@@ -93,7 +129,8 @@ fn raise<A: Asks>(
     }
     let r = broken.row as usize - 1;
     let from = places[i].index(r);
-    let to = least(alloc, engine, point, broken, bounds, from)?;
+    let slow = places[i].is_slow(r);
+    let to = rise(alloc, engine, point, broken, bounds, from, slow)?;
     places[i].raise(r, to);
     Ok(())
 }
